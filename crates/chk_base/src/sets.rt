@@ -48,6 +48,12 @@ impl Values {
     {
         self.items.get(at)
     }
+
+    pub fn items(&self) -> &[u32]
+        ensures { result.now ≡ self.now }
+    {
+        self.items.as_slice()
+    }
 }
 
 /// A cell with the expression whose value it is given.
@@ -103,5 +109,11 @@ impl Sets {
         ensures { option_copied result ≡ slice_get self.now at }
     {
         self.items.get(at)
+    }
+
+    pub fn items(&self) -> &[Set]
+        ensures { result.now ≡ self.now }
+    {
+        self.items.as_slice()
     }
 }

@@ -112,4 +112,10 @@ impl Words {
     {
         self.items.get(at)
     }
+
+    pub fn items(&self) -> &[Text]
+        ensures { result.now ≡ self.now }
+    {
+        self.items.as_slice()
+    }
 }

@@ -178,4 +178,10 @@ impl Widths {
     {
         self.items.get(at)
     }
+
+    pub fn items(&self) -> &[Width]
+        ensures { result.now ≡ self.now }
+    {
+        self.items.as_slice()
+    }
 }
