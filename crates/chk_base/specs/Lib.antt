@@ -3,3 +3,10 @@ pub mod Operators
 pub mod Term
 pub mod WordValue
 pub mod Places
+pub mod Causes
+pub mod Pieces
+pub mod Desk
+pub mod Faults
+pub mod Sink
+pub mod MemSink
+pub mod MemDesk

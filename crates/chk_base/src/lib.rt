@@ -1,10 +1,21 @@
-// What every crate stands on: words, cells and expressions, and texts with places.
+// What every crate stands on: words, cells and expressions, texts with places, and the outside.
 #![tactic(auto)]
 
 pub mod cells;
+pub mod desk;
 pub mod expr;
+mod faults;
+pub mod file_desk;
+mod file_list;
 pub mod meaning;
+pub mod mem_desk;
+pub mod mem_sink;
+pub mod never_sink;
+pub mod out_sink;
 pub mod place;
 pub mod sets;
+pub mod sink;
+#[cfg(test)]
+mod tests;
 pub mod text;
 pub mod word;

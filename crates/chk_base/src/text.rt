@@ -38,6 +38,21 @@ impl Text {
         Ok(Text { bytes })
     }
 
+    // The empty text, with memory for so many bytes.
+    pub(crate) fn with_capacity(alloc: Global, capacity: usize) -> Result<Text, AllocError>
+        ensures { IfOk result (λ text. text ≡ []) }
+    {
+        let bytes = Vec::with_capacity(alloc, capacity)?;
+        Ok(Text { bytes })
+    }
+
+    // The text of these bytes, which it keeps.
+    pub(crate) fn of(bytes: Vec<u8>) -> Text
+        ensures { result ≡ bytes.items }
+    {
+        Text { bytes }
+    }
+
     /// Puts a byte at the end.
     pub fn push(&mut self, byte: u8) -> Result<(), AllocError>
         ensures ok { OnOk result (self.new ≡ self.old ++ byte ∷ []) }
@@ -54,6 +69,13 @@ impl Text {
     {
         self.bytes.extend_from_slice(bytes)?;
         Ok(())
+    }
+
+    /// A text of the same bytes.
+    pub fn copy(&self, alloc: Global) -> Result<Text, AllocError>
+        ensures { IfOk result (λ text. text ≡ self.now) }
+    {
+        Text::from_bytes(alloc, self.as_bytes())
     }
 
     pub fn as_bytes(&self) -> &[u8]
