@@ -1,12 +1,11 @@
 -- A loop that appends a piece part by part.
-use Rattle.std.proofs.Common.{◌≡◌, ℕ, ◌+◌, ◌-◌, ◌<◌, ◌≤◌, List, [], ◌∷◌, ◌++◌, length, take, drop, refl, sym, ◌∙◌, ap, append_assoc, arith, min}
-use Rattle.std.specs.Prelude.{Option, Some, None, Ok, Err, IsErrOf, option_map, IsTrue, if◌then◌else◌}
+use Rattle.std.proofs.Common.{◌≡◌, ℕ, ◌-◌, ◌≤◌, List, [], ◌∷◌, ◌++◌, length, take, drop, refl, sym, ◌∙◌, ap, append_assoc, arith}
+use Rattle.std.specs.Prelude.{Option, Some, None, Ok, Err, option_map, if◌then◌else◌}
 use Rattle.std.proofs.lemmas.List.{take-append-drop, take_all, length-drop, append-nil}
 use Rattle.std.proofs.Math.Seq.{take-append_seam}
 use Rattle.chk_base.specs.declared.desk.PutFault.{PutFault}
 use Rattle.chk_base.specs.declared.desk.PutFault.TheVariants as put
-use Rattle.chk_base.specs.Causes.{HasCause, Rose}
-use Rattle.chk_base.specs.Desk.{DeskState, DeskFault, Append, Files, Appends, AppendsAll, is_put_failed, with_piece_at}
+use Rattle.chk_base.specs.Desk.{DeskState, Append, Files, Appends, AppendsAll, is_put_failed, with_piece_at}
 use Rattle.chk_base.proofs.Files.{with_no_piece, with_both_pieces}
 use Rattle.chk_base.proofs.Rising.{rose_since}
 

@@ -1,10 +1,9 @@
 -- A loop that writes a piece part by part.
-use Rattle.std.proofs.Common.{◌≡◌, ℕ, ◌+◌, ◌-◌, ◌≤◌, List, [], ◌∷◌, ◌++◌, length, take, drop, refl, sym, ◌∙◌, ap, subst, append_assoc, arith, rules, min}
-use Rattle.std.specs.Prelude.{Option, Some, None, Ok, Err, option_map, IsTrue}
+use Rattle.std.proofs.Common.{◌≡◌, ℕ, ◌-◌, ◌≤◌, List, [], ◌∷◌, ◌++◌, length, take, drop, refl, sym, ◌∙◌, ap, append_assoc, arith}
+use Rattle.std.specs.Prelude.{Option, Some, None, Ok, Err, option_map}
 use Rattle.std.proofs.lemmas.List.{take-append-drop, take_all, length-drop, append-nil}
 use Rattle.std.proofs.Math.Seq.{take-append_seam}
 use Rattle.chk_base.specs.declared.sink.Failed.{Failed}
-use Rattle.chk_base.specs.Causes.{HasCause, any_error, Rose}
 use Rattle.chk_base.specs.Sink.{SinkState, Writes, WritesAll, followed_by}
 use Rattle.chk_base.proofs.Rising.{rose_since}
 

@@ -1,9 +1,9 @@
 -- Worked values of the definitions of the outside.
-use Rattle.std.proofs.Common.{◌≡◌, ◌+◌, ◌-◌, ◌^◌, ◌≤◌, ℕ, List, [], ◌∷◌, refl, arith, lit≤, true}
+use Rattle.std.proofs.Common.{◌≡◌, ◌-◌, ◌^◌, [], ◌∷◌, refl, arith, lit≤}
 use Rattle.std.specs.Prelude.{Some, None, Ok, Err}
 use Rattle.chk_base.specs.declared.desk.FetchFault.TheVariants as fetch
 use Rattle.chk_base.specs.Causes.{Rose, risen}
-use Rattle.chk_base.specs.Desk.{FetchAnswer, DeskFault, Fetch, Begin}
+use Rattle.chk_base.specs.Desk.{FetchAnswer, Fetch, Begin}
 use Rattle.chk_base.specs.Faults.{count_of, last_of, after_fault}
 use Rattle.chk_base.specs.Pieces.{TakesSome}
 

@@ -129,7 +129,10 @@ fn a_file_of_a_desk_in_memory_is_put_and_appended_to(rt: HostRuntime) -> Result<
     put(alloc, &mut desk, "a", "BC")?;
     assert_eq!(rt; file(alloc, &desk, "a")?.as_str(), "[66, 67]");
     assert_eq!(rt; append(&mut desk, "D"), Err(PutFault::Failed));
-    assert_eq!(rt; answer(alloc, &mut desk, &Call::Begin("a"))?.as_str(), "begun");
+    assert_eq!(rt;
+        answer(alloc, &mut desk, &Call::Begin("a"))?.as_str(),
+        "begun"
+    );
     assert_eq!(rt; append(&mut desk, "DE"), Ok(()));
     assert_eq!(rt; file(alloc, &desk, "a")?.as_str(), "[68, 69]");
     Ok(())

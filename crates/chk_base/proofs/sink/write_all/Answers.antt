@@ -1,4 +1,4 @@
-use Rattle.std.proofs.Common.{rules, ◌≡◌, arith, length, take, drop, ◌++◌, []}
+use Rattle.std.proofs.Common.{rules, []}
 use Rattle.std.proofs.lemmas.Result.{err_from_is_err_and}
 use Rattle.chk_base.proofs.SinkSoFar.{so_far_none, so_far_more, all_written, cut_short}
 use Rattle.chk_base.proofs.sink.write_all.Goals as goal

@@ -1,5 +1,5 @@
-use Rattle.std.proofs.Common.{◌≡◌, sym, ◌∙◌, ap, set, ◌++◌}
-use Rattle.std.specs.FinMap.{insert, from_entries}
+use Rattle.std.proofs.Common.{sym, ◌∙◌, ap, set, ◌++◌}
+use Rattle.std.specs.FinMap.{from_entries}
 use Rattle.chk_base.proofs.InList.{append_at, append_none}
 use Rattle.chk_base.specs.Desk.{with_piece}
 use Rattle.chk_base.proofs.file_list.FileList.append.Goals as goal

@@ -1,4 +1,4 @@
-use Rattle.std.proofs.Common.{◌≡◌, sym, ◌∙◌, ap, Some}
+use Rattle.std.proofs.Common.{sym, ◌∙◌, ap, Some}
 use Rattle.std.specs.FinMap.{get}
 use Rattle.chk_base.proofs.InList.{get_at, get_none}
 use Rattle.chk_base.proofs.file_list.FileList.get.Goals as goal

@@ -1,4 +1,4 @@
-use Rattle.std.proofs.Common.{◌≡◌, sym, ◌∙◌, ap, set}
+use Rattle.std.proofs.Common.{sym, ◌∙◌, ap, set}
 use Rattle.std.specs.FinMap.{insert, from_entries}
 use Rattle.chk_base.proofs.InList.{put_at, put_behind}
 use Rattle.chk_base.proofs.file_list.FileList.put.Goals as goal

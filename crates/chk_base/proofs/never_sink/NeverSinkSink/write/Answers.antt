@@ -1,4 +1,4 @@
-use Rattle.std.proofs.Common.{rules, ◌≡◌, ◌≤◌, ◌-◌, ℕ, min, arith, length, take, ◌∙◌, ap, sym, List, ◌++◌}
+use Rattle.std.proofs.Common.{◌≡◌, ◌≤◌, ℕ, arith, length, take, ◌∙◌, ap, sym, List, ◌++◌}
 use Rattle.std.proofs.lemmas.Slice.{take-put_mid}
 use Rattle.std.proofs.lemmas.List.{length-take-le}
 use Rattle.chk_base.proofs.Keeping.{kept_first}
