@@ -1,0 +1,92 @@
+-- The whole law: over every sound application, and so over every one in order and over every code, both schedulers do the same.
+use Rattle.std.proofs.Common.{◌≡◌, ℕ, ◌≤◌, Bool, true, false, List, length, Option, Some, None, refl, arith, slice_get, if◌then◌else◌}
+use Rattle.app_model.specs.declared.app.App.{App}
+use Rattle.app_model.specs.InOrder.{IsInOrder}
+use Rattle.chk_base.specs.declared.word.Width.{Width}
+use Rattle.chk_base.specs.Operators.{truth}
+use Rattle.chk_base.specs.Term.{Term}
+use Rattle.step_ir.proofs.Failing.{machine_stopped_lem, stopped_lem}
+use Rattle.step_ir.proofs.InOrder.{sound}
+use Rattle.step_ir.proofs.Prefixes.{as_many_lem, prefixes_lem}
+use Rattle.step_ir.proofs.Rising.{rising_after_lem, rising_lem}
+use Rattle.step_ir.proofs.Traces.{same_runs_lem, same_traces_lem, starts, steps}
+use Rattle.step_ir.specs.declared.code.Code.{Code}
+use Rattle.step_ir.specs.declared.event.Choice.{Choice}
+use Rattle.step_ir.specs.declared.event.Event.{Event}
+use Rattle.step_ir.specs.declared.event.EventAction.TheVariants as Told
+use Rattle.step_ir.specs.declared.event.Failure.{Failure}
+use Rattle.step_ir.specs.EntityStep.{Behaviour, Does, Fails, TellsNoFailures, TellsNoFailure}
+use Rattle.step_ir.specs.OneStackMachine
+use Rattle.step_ir.specs.OneStackMachine.{Stacked}
+use Rattle.step_ir.specs.Points.{PlainAction, PlainPoint, Read, Write, Local, Branch, Input, Call, Return, Invoke, Assert, End, points_in, width_in}
+use Rattle.step_ir.specs.PointStep.{Bits, act, behaviour_of, fails, first, go_on, step, unless, val}
+use Rattle.step_ir.specs.Services.{fault}
+use Rattle.step_ir.specs.Setting.{IsSound, Setting, setting_of}
+use Rattle.step_ir.specs.TraceEquality.{HaveSameTraces}
+
+module _ {S G : Type 0} where
+  -- the law over every sound application
+  pub same_traces_of_sound : (app : Setting) → IsSound app → (beh : Behaviour S G) (globals : G) → HaveSameTraces app beh globals
+  same_traces_of_sound app ok beh globals =
+      record {
+        starts = starts app ok beh globals;
+        steps = steps app ok beh;
+        runs = same_runs_lem app ok beh globals;
+        traces = same_traces_lem app ok beh globals;
+        as_many = as_many_lem app beh globals;
+        prefixes = prefixes_lem app beh globals;
+        rising = rising_lem app ok beh;
+        rising_after = rising_after_lem app ok beh globals;
+        stopped = λ tells. stopped_lem app beh tells ok globals;
+        machine_stopped = λ tells. machine_stopped_lem app beh tells globals;
+      }
+
+  -- the law over every application in order
+  pub same_traces_in_order : (app : App) → IsInOrder app → (beh : Behaviour S G) (globals : G) → HaveSameTraces (setting_of app) beh globals
+  same_traces_in_order app ok = same_traces_of_sound (setting_of app) (sound app ok)
+
+  -- at most 16 entities stand on the stack
+  pub depth_in_order : (app : App) → IsInOrder app → (beh : Behaviour S G) (globals : G) (choices : List Choice) (events : List Event) (m : Stacked S G) → OneStackMachine.run (setting_of app) beh choices (OneStackMachine.start (setting_of app) beh globals) ≡ Some (events, m) → length m.stack ≤ 16
+  depth_in_order app ok beh globals choices events m is =
+      let few = ok.few_entities in
+      let depth = (rising_after_lem (setting_of app) (sound app ok) beh globals choices events m is).depth in
+      omega arith
+
+-- the entities of a code tell no failure of their own
+module _ (width : ℕ → Width) where
+  -- an action is told as no failure
+  act_tells : (action : PlainAction) (nexts : List (Term × ℕ)) (bits : Bits) → TellsNoFailure (act width action nexts bits)
+  act_tells (Read t into) nexts bits = refl
+  act_tells (Write t term) nexts bits = refl
+  act_tells (Local cell term) nexts bits = refl
+  act_tells (Branch term) nexts bits = refl
+  act_tells (Input cell) nexts bits = λ w. refl
+  act_tells (Call f sets) nexts bits = refl
+  act_tells (Return None) nexts bits = refl
+  act_tells (Return (Some s)) nexts bits = refl
+  act_tells (Invoke service) nexts bits = tt
+  act_tells (Assert term) nexts bits = go (truth (val width bits term))
+    where
+      go : (b : Bool) → TellsNoFailure (if b then Does Told.Assert (go_on width nexts bits) else Fails (fault 1))
+      go true = refl
+      go false = tt
+  act_tells End nexts bits = tt
+
+  -- a trap is a failure, and no step of its own
+  fails_tells : (action : PlainAction) (failure : Failure) → TellsNoFailure (fails width action failure)
+  fails_tells (Input cell) failure = tt
+  fails_tells _ failure = tt
+
+  -- so it is, whether a trap counts or not
+  unless_tells : (trap : Option ℕ) (p : PlainPoint) (bits : Bits) → TellsNoFailure (unless width trap p bits)
+  unless_tells None p bits = act_tells p.action p.nexts bits
+  unless_tells (Some n) p bits = fails_tells p.action (fault n)
+
+  -- so it is at every point
+  step_tells : (point : Option PlainPoint) (bits : Bits) → TellsNoFailure (step width point bits)
+  step_tells None bits = tt
+  step_tells (Some p) bits = unless_tells (first (val width bits) p.traps) p bits
+
+-- so it is for every code
+pub code_tells : (code : Code) → TellsNoFailures (behaviour_of code)
+code_tells code e at bits = step_tells (width_in code) (slice_get (points_in code e) at) bits

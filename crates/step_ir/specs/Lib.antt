@@ -1,0 +1,15 @@
+pub mod Numbers
+pub mod Setting
+pub mod EntityStep
+pub mod Services
+pub mod Deeds
+pub mod SchedulerState
+pub mod Reschedule
+pub mod SchedulerStep
+pub mod PermittedSchedule
+pub mod OneStackMachine
+pub mod Points
+pub mod PointStep
+pub mod Agreement
+pub mod TraceEquality
+pub mod Fits

@@ -1,0 +1,8 @@
+// The steps of an application: points and events, the scheduler of the standard and the machine with one stack, and that they do the same.
+#![tactic(auto)]
+
+pub mod code;
+pub mod event;
+pub mod law;
+#[cfg(test)]
+mod tests;
