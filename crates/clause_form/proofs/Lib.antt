@@ -1,0 +1,10 @@
+pub mod Agreement
+pub mod Gaps
+pub mod Negations
+pub mod NotLearned
+pub mod Rising
+pub mod Rows
+pub mod Sets
+pub mod Soundness
+pub mod Stores
+pub mod Tables

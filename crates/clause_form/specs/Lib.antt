@@ -1,0 +1,9 @@
+pub mod ClauseStore
+pub mod ClauseTruth
+pub mod DerivedLine
+pub mod Keep
+pub mod LearnedLine
+pub mod ListKeep
+pub mod ListStore
+pub mod LitSet
+pub mod Literals
