@@ -1,0 +1,17 @@
+pub mod Adding
+pub mod Appending
+pub mod Counting
+pub mod Ends
+pub mod Getting
+pub mod Jumping
+pub mod Learned
+pub mod LevelTables
+pub mod Levels
+pub mod Logs
+pub mod Models
+pub mod Numbers
+pub mod Refuting
+pub mod Resolving
+pub mod Rows
+pub mod Scanning
+pub mod Sorting

@@ -1,0 +1,11 @@
+pub mod Analysis
+pub mod Answer
+pub mod Decision
+pub mod Learning
+pub mod LevelTable
+pub mod Numbering
+pub mod Propagation
+pub mod Resolvent
+pub mod Search
+pub mod Status
+pub mod Trail
