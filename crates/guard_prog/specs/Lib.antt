@@ -1,0 +1,5 @@
+pub mod GuardedRun
+pub mod Drafts
+pub mod WellShaped
+pub mod Executions
+pub mod Laws
