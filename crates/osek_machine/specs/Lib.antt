@@ -1,0 +1,12 @@
+pub mod CellWords
+pub mod Within
+pub mod Performing
+pub mod Ready
+pub mod Held
+pub mod Kept
+pub mod Inside
+pub mod Faults
+pub mod Changing
+pub mod Beginning
+pub mod Steps
+pub mod Sample
