@@ -1,0 +1,11 @@
+pub mod Pieces
+pub mod Spelling
+pub mod OilWords
+pub mod Lines
+pub mod FirstFits
+pub mod CFormNames
+pub mod CFormFronts
+pub mod CFormRead
+pub mod FirstOrder
+pub mod Runs
+pub mod Replies

@@ -1,0 +1,52 @@
+use Rattle.std.proofs.Common.{◌≡◌, ℕ, List, sym, subst, ◌∙◌, ap}
+use Rattle.chk_base.specs.Sink.{WritesAll}
+use Rattle.oschk_cmd.specs.Answers.{status_after}
+use Rattle.oschk_cmd.proofs.Replies.{fault_status, write_status}
+use Rattle.oschk_cmd.proofs.command.oschk.Goals as goal
+
+pub returns-in-Ok-clause-answered : goal.returns-in-Ok-clause-answered
+returns-in-Ok-clause-answered g c =
+    record {
+      answer = c.reply-reply.result;
+      cause = c.reply-reply.ensures.reply;
+      result = c.write_all.result;
+      written =
+          subst
+          (λ (piece : List ℕ). WritesAll (g.S.Sink.state c.args.out.now) (g.S.Sink.state c.write_all.new.out) piece c.write_all.result)
+          c.text_of.ensures
+          c.write_all.ensures;
+      status = c.status_of.ensures ∙ ap (status_after c.reply-reply.result) (sym c.in-Ok.is);
+    }
+
+pub returns-then-is_fault-clause-answered : goal.returns-then-is_fault-clause-answered
+returns-then-is_fault-clause-answered g c =
+    record {
+      answer = c.reply-reply.result;
+      cause = c.reply-reply.ensures.reply;
+      result = c.write_all.result;
+      written =
+          subst
+          (λ (piece : List ℕ). WritesAll (g.S.Sink.state c.args.out.now) (g.S.Sink.state c.write_all.new.out) piece c.write_all.result)
+          c.text_of.ensures
+          c.write_all.ensures;
+      status =
+          c.status_of-then-is_fault.ensures
+          ∙ (fault_status c.reply-reply.result c.in-Err.field-0 (sym c.is_fault.ensures ∙ c.if-is_fault.true)
+          ∙ ap (status_after c.reply-reply.result) (sym c.in-Err.is));
+    }
+
+pub returns-clause-answered : goal.returns-clause-answered
+returns-clause-answered g c =
+    record {
+      answer = c.reply-reply.result;
+      cause = c.reply-reply.ensures.reply;
+      result = c.write_all.result;
+      written =
+          subst
+          (λ (piece : List ℕ). WritesAll (g.S.Sink.state c.args.out.now) (g.S.Sink.state c.write_all.new.out) piece c.write_all.result)
+          c.text_of.ensures
+          c.write_all.ensures;
+      status =
+          write_status c.reply-reply.result c.in-Err.field-0 (sym c.is_fault.ensures ∙ c.if-is_fault.false)
+          ∙ ap (status_after c.reply-reply.result) (sym c.in-Err.is);
+    }

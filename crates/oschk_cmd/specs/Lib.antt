@@ -1,0 +1,12 @@
+pub mod Tokens
+pub mod RunWords
+pub mod Reserved
+pub mod FirstOil
+pub mod FirstC
+pub mod PrintedTexts
+pub mod FirstCode
+pub mod FirstPlaces
+pub mod FirstCParts
+pub mod OneRun
+pub mod Status
+pub mod Answers
