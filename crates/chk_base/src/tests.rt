@@ -46,6 +46,17 @@ fn answer<D: Desk>(alloc: Global, desk: &mut D, call: &Call<'_>) -> Result<Strin
     }
 }
 
+fn put(alloc: Global, desk: &mut MemDesk, name: &str, bytes: &str) -> Result<(), AllocError> {
+    desk.put(&text(alloc, name)?, &text(alloc, bytes)?)
+}
+
+fn fail_at(desk: &mut MemDesk, calls: &[u64]) -> Result<(), AllocError> {
+    for call in calls {
+        desk.fail_at(*call)?;
+    }
+    Ok(())
+}
+
 #[test]
 fn a_fault_is_shown_as_its_name(rt: HostRuntime) -> Result<(), Fail> {
     let alloc = rt.alloc();
@@ -76,10 +87,8 @@ fn a_fault_is_shown_as_its_name(rt: HostRuntime) -> Result<(), Fail> {
 fn a_desk_in_memory_keeps_files_and_fails_where_it_was_told(rt: HostRuntime) -> Result<(), Fail> {
     let alloc = rt.alloc();
     let mut desk = MemDesk::new(alloc);
-    desk.put(&text(alloc, "a")?, &text(alloc, "AB")?)?;
-    for call in [11, 12, 13] {
-        desk.fail_at(call)?;
-    }
+    put(alloc, &mut desk, "a", "AB")?;
+    fail_at(&mut desk, &[11, 12, 13])?;
     let calls = [
         (Call::Fetch("a", 2), "[65, 66]"),
         (Call::Fetch("a", 1), "TooLong"),
@@ -102,10 +111,6 @@ fn a_desk_in_memory_keeps_files_and_fails_where_it_was_told(rt: HostRuntime) -> 
         assert_eq!(rt; answer(alloc, &mut desk, call)?.as_str(), *want, "at {at}");
     }
     Ok(())
-}
-
-fn put(alloc: Global, desk: &mut MemDesk, name: &str, bytes: &str) -> Result<(), AllocError> {
-    desk.put(&text(alloc, name)?, &text(alloc, bytes)?)
 }
 
 fn append(desk: &mut MemDesk, piece: &str) -> Result<(), PutFault> {
