@@ -1,6 +1,5 @@
 -- The application of the first form is in order.
-use Rattle.std.proofs.Common.{◌≡◌, ℕ, zero, suc, ◌+◌, ◌<◌, ◌≤◌, List, [], ◌∷◌, All, slice_index_or, refl, arith}
-use Rattle.app_model.specs.declared.app.Task.{Task}
+use Rattle.std.proofs.Common.{zero, suc, ◌≤◌, [], ◌∷◌, All, refl, arith}
 use Rattle.app_model.specs.InOrder.{IsInOrder, IsTaskInOrder}
 use Rattle.oschk_cmd.specs.FirstOil.{PlainOil}
 use Rattle.oschk_cmd.specs.FirstCode.{app_of, task_of}

@@ -1,6 +1,6 @@
 -- The words at the places of what is free in the first form of OIL texts.
-use Rattle.std.proofs.Common.{◌≡◌, List, Some, slice_get, decimal, refl, subst, sym}
-use Rattle.oschk_cmd.specs.Tokens.{PlainToken, word_of}
+use Rattle.std.proofs.Common.{List, refl, subst, sym}
+use Rattle.oschk_cmd.specs.Tokens.{PlainToken}
 use Rattle.oschk_cmd.specs.FirstOil.{PlainOil, oil_tokens, AreWords, IsOilForm}
 
 -- tokens of the form have its words at their places

@@ -1,5 +1,5 @@
 -- Lemmas on replies and statuses.
-use Rattle.std.proofs.Common.{◌≡◌, ℕ, Bool, true, false, if◌then◌else◌, List, Option, Some, None, Result, Ok, Err, IfSome, refl, sym, subst}
+use Rattle.std.proofs.Common.{◌≡◌, ℕ, Bool, true, false, if◌then◌else◌, List, Option, Some, None, Ok, Err, IfSome, refl}
 use Rattle.std.specs.FinMap.{get}
 use Rattle.chk_base.specs.Desk.{DeskState, FetchAnswer, Files}
 use Rattle.chk_base.specs.declared.sink.Failed.{Failed}

@@ -1,7 +1,6 @@
 -- What a command answers, and why.
-use Rattle.std.specs.Prelude.{◌≡◌, ℕ, ◌<◌, ◌≤◌, Bool, true, false, if◌then◌else◌, ◌⊎◌, List, [], ◌∷◌, ◌++◌, length, Option, Some, None, is_some, IfSome, IsSomeAnd, Result, Ok, Err, codes}
+use Rattle.std.specs.Prelude.{◌≡◌, ℕ, ◌<◌, Bool, true, false, if◌then◌else◌, ◌⊎◌, List, length, Option, Some, is_some, IfSome, IsSomeAnd, Result, Ok, Err, codes}
 use Rattle.std.specs.FinMap.{get}
-use Rattle.app_model.specs.declared.app.App.{App}
 use Rattle.chk_base.specs.Causes.{Rose}
 use Rattle.chk_base.specs.Desk.{DeskState, Fetch}
 use Rattle.chk_base.specs.Sink.{SinkState, WritesAll}

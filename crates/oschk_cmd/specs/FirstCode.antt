@@ -1,5 +1,5 @@
 -- The application and the code of the first forms.
-use Rattle.std.specs.Prelude.{◌≡◌, ℕ, ◌+◌, ◌*◌, Bool, true, false, ◌||◌, if◌then◌else◌, List, [], ◌∷◌, ◌++◌, length, map, None}
+use Rattle.std.specs.Prelude.{◌≡◌, ℕ, ◌+◌, ◌*◌, Bool, true, false, if◌then◌else◌, List, [], ◌∷◌, ◌++◌, length, map, None}
 use Rattle.std.specs.List.{list_any}
 use Rattle.app_model.specs.declared.app.App.{App}
 use Rattle.app_model.specs.declared.app.Class.TheVariants.{Bcc1}
@@ -7,7 +7,7 @@ use Rattle.app_model.specs.declared.app.Task.{Task}
 use Rattle.chk_base.specs.declared.expr.BinOp.TheVariants.{Eq}
 use Rattle.chk_base.specs.declared.place.Place.{Place}
 use Rattle.chk_base.specs.declared.word.Width.TheVariants.{W8, W32}
-use Rattle.chk_base.specs.Term.{Term, Const, Cell, Bin}
+use Rattle.chk_base.specs.Term.{Const, Cell, Bin}
 use Rattle.step_ir.specs.declared.code.CellName.{CellName}
 use Rattle.step_ir.specs.declared.code.Code.{Code}
 use Rattle.step_ir.specs.declared.event.Service.TheVariants.{Terminate}

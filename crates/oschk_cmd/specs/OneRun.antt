@@ -1,5 +1,5 @@
 -- The one run of a machine where no routine arrives and no input is taken.
-use Rattle.std.specs.Prelude.{◌≡◌, ℕ, Bool, List, [], ◌∷◌, Option, Some, None, is_some, replicate}
+use Rattle.std.specs.Prelude.{◌≡◌, ℕ, List, [], ◌∷◌, Option, Some, None, is_some, replicate}
 use Rattle.app_model.specs.declared.app.App.{App}
 use Rattle.chk_base.specs.declared.place.Place.{Place}
 use Rattle.step_ir.specs.declared.code.Code.{Code}

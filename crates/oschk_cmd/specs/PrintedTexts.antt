@@ -4,7 +4,6 @@ use Rattle.std.specs.Fmt.{signed_decimal}
 use Rattle.app_model.specs.declared.app.App.{App}
 use Rattle.app_model.specs.declared.app.Class.{Class}
 use Rattle.app_model.specs.declared.app.Class.TheVariants as class
-use Rattle.app_model.specs.declared.app.Entity.{Entity}
 use Rattle.chk_base.specs.declared.place.Place.{Place}
 use Rattle.chk_base.specs.Widths.{PlainWord, reading_of}
 use Rattle.step_ir.specs.declared.code.CellName.{CellName}

@@ -1,4 +1,4 @@
-use Rattle.std.proofs.Common.{◌≡◌, ℕ, List, sym, subst, ◌∙◌, ap}
+use Rattle.std.proofs.Common.{ℕ, List, sym, subst, ◌∙◌, ap}
 use Rattle.chk_base.specs.Sink.{WritesAll}
 use Rattle.oschk_cmd.specs.Answers.{status_after}
 use Rattle.oschk_cmd.proofs.Replies.{fault_status, write_status}

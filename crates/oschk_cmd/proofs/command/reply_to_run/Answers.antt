@@ -1,4 +1,4 @@
-use Rattle.std.proofs.Common.{◌≡◌, Option, Some, IfSome, sym, subst}
+use Rattle.std.proofs.Common.{◌≡◌, Option, Some, IfSome, subst}
 use Rattle.std.specs.FinMap.{get}
 use Rattle.chk_base.specs.Desk.{Files}
 use Rattle.oschk_cmd.specs.RunWords.{plain_run}

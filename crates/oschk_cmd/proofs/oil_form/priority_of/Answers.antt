@@ -1,4 +1,4 @@
-use Rattle.std.proofs.Common.{◌≡◌, arith, sym, ◌∙◌}
+use Rattle.std.proofs.Common.{arith, sym, ◌∙◌}
 use Rattle.oschk_cmd.proofs.Spelling.{same_number}
 use Rattle.oschk_cmd.proofs.oil_form.priority_of.Goals as goal
 

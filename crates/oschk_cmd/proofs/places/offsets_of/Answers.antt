@@ -1,4 +1,4 @@
-use Rattle.std.proofs.Common.{◌≡◌, Some, length, sym, ◌∙◌, arith}
+use Rattle.std.proofs.Common.{◌≡◌, Some, length, sym, arith}
 use Rattle.oschk_cmd.specs.Tokens.{piece, plain_found}
 use Rattle.oschk_cmd.proofs.Pieces.{offsets_go_on, offsets_within}
 use Rattle.oschk_cmd.proofs.places.offsets_of.Goals as goal
