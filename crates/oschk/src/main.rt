@@ -1,6 +1,11 @@
 // The program: the top call over the files of the system and the standard output.
 #![tactic(auto)]
 
+#[cfg(test)]
+mod solver_tests;
+#[cfg(test)]
+mod tests;
+
 use chk_base::file_desk::FileDesk;
 use chk_base::out_sink::OutSink;
 use chk_base::text::{Text, Words};

@@ -1,5 +1,5 @@
 -- The code of the first forms fits their application.
-use Rattle.std.proofs.Common.{◌≡◌, ℕ, zero, suc, ◌+◌, ◌*◌, ◌<◌, ◌≤◌, Bool, true, false, ◌&&◌, ◌||◌, if◌then◌else◌, List, [], ◌∷◌, ◌++◌, length, map, take, Some, slice_get, refl, sym, ap, subst, ◌∙◌, length-append, arith}
+use Rattle.std.proofs.Common.{◌≡◌, ℕ, zero, suc, ◌+◌, ◌*◌, ◌<◌, ◌≤◌, Bool, true, false, ◌&&◌, ◌||◌, if◌then◌else◌, List, [], ◌∷◌, ◌++◌, length, map, take, Some, None, slice_get, refl, sym, ap, subst, ◌∙◌, length-append, arith}
 use Rattle.std.proofs.lemmas.List.{append-nil, length-map}
 use Rattle.std.specs.List.{list_all, list_any}
 use Rattle.app_model.specs.declared.app.App.{App}
@@ -8,6 +8,7 @@ use Rattle.chk_base.specs.declared.word.Width.{Width}
 use Rattle.chk_base.specs.declared.word.Width.TheVariants.{W1, W8, W16, W32}
 use Rattle.chk_base.specs.Widths.{limit_of}
 use Rattle.chk_base.specs.WordValue.{word_at}
+use Rattle.osek_machine.specs.Within.{input_cell}
 use Rattle.step_ir.specs.declared.event.Service.TheVariants.{Terminate}
 use Rattle.step_ir.specs.declared.code.CellName.{CellName}
 use Rattle.step_ir.specs.declared.code.Code.{Code}
@@ -22,6 +23,7 @@ use Rattle.oschk_cmd.specs.FirstC.{PlainC, is_within}
 use Rattle.oschk_cmd.specs.FirstOil.{PlainOil}
 use Rattle.oschk_cmd.specs.declared.token.Language.TheVariants.{C}
 use Rattle.oschk_cmd.specs.FirstPlaces.{offsets_of, places_of, starts_from, statement_size, token_place}
+use Rattle.oschk_cmd.specs.OneRun.{TakesNoInput}
 use Rattle.oschk_cmd.specs.FirstCode.{app_of, variable_cell, temporary_cell, has_read, temporaries, variable_target, step_point, last_point, statement_points, end_points, points_from, first_points, IsFirstCode}
 
 -- one entity, with these names and points
@@ -226,6 +228,29 @@ temporary_room : (b : Bool) → b ≡ true → 1 ≤ length (if b then temporary
 temporary_room true is = omega arith
 temporary_room false is = absurd cc
 
+-- ---- no point takes an input
+
+abbrev AreNoInputs : List PlainPoint → Type 0
+AreNoInputs [] = Unit {0}
+AreNoInputs (p ∷ ps) = (input_cell p.action ≡ None) × AreNoInputs ps
+
+all_no_input : (ps : List PlainPoint) → AreNoInputs ps → (at : ℕ) (p : PlainPoint) → slice_get ps at ≡ Some p → input_cell p.action ≡ None
+all_no_input [] none at p is = absurd cc
+all_no_input (q ∷ qs) none zero p is =
+    let same : q ≡ p = cc in
+    subst (λ (r : PlainPoint). input_cell r.action ≡ None) same none.0
+all_no_input (q ∷ qs) none (suc at) p is = all_no_input qs none.1 at p is
+
+points_no_input : (variables : ℕ) (ss : List Statement) (places : List Place) (at : ℕ) → AreNoInputs (points_from variables at ss places)
+points_no_input variables [] [] at = tt
+points_no_input variables [] (p ∷ []) at = tt
+points_no_input variables [] (p ∷ q ∷ []) at = (refl, (refl, tt))
+points_no_input variables [] (p ∷ q ∷ r ∷ ps) at = tt
+points_no_input variables (s ∷ ss) [] at = tt
+points_no_input variables (SetNumber v n ∷ ss) (p ∷ ps) at = (refl, points_no_input variables ss ps _)
+points_no_input variables (SetVariable v w ∷ ss) (p ∷ ps) at = (refl, (refl, points_no_input variables ss ps _))
+points_no_input variables (Check v n ∷ ss) (p ∷ ps) at = (refl, (refl, points_no_input variables ss ps _))
+
 module _ (oil : PlainOil) (form : PlainC) (places : List Place) (code : Code) (is : IsFirstCode form places code) where
   one : IsOne code.entities (temporaries form.statements) (first_points form places)
   one = one_entity code.entities (temporaries form.statements) (first_points form places) is.names is.points
@@ -307,6 +332,18 @@ module _ (oil : PlainOil) (form : PlainC) (places : List Place) (code : Code) (i
         few_points = let count = count_is in omega (arith, count, few);
         few_bits = bits_few few_variables;
       }
+
+  -- it takes no input
+  pub first_inputs : TakesNoInput code
+  first_inputs zero at p found =
+      all_no_input (first_points form places) (points_no_input (length form.variables) form.statements places 0) at p (sym (ap (λ (ps : List PlainPoint). slice_get ps at) points_are) ∙ found)
+  first_inputs (suc e) at p found =
+      let none : points_in code (suc e) ≡ [] = rw one.is refl in
+      absurd (never at (sym (ap (λ (ps : List PlainPoint). slice_get ps at) none) ∙ found))
+    where
+      never : (at : ℕ) → slice_get [] at ≡ Some p → ⊥
+      never zero is = cc
+      never (suc at) is = cc
 
   -- its points are few
   pub first_few : length form.statements ≤ 32 → point_count code.entities ≤ 2048

@@ -7,5 +7,7 @@ pub mod CFormNames
 pub mod CFormFronts
 pub mod CFormRead
 pub mod FirstOrder
+pub mod OnlyRun
 pub mod Runs
 pub mod Replies
+pub mod Verdicts

@@ -1,5 +1,5 @@
 -- The one run: what it has done so far is a permitted schedule.
-use Rattle.std.proofs.Common.{◌≡◌, ℕ, zero, suc, ◌+◌, ◌≤◌, false, List, [], ◌∷◌, ◌++◌, length, Option, Some, None, is_some, refl, sym, ap, ◌∙◌, add-one, length-append, subst, arith}
+use Rattle.std.proofs.Common.{◌≡◌, ◌≢◌, ℕ, zero, suc, ◌+◌, ◌≤◌, Bool, true, false, List, [], ◌∷◌, ◌++◌, length, Option, Some, None, is_some, refl, sym, ap, ◌∙◌, add-one, length-append, subst, arith}
 use Rattle.app_model.specs.declared.app.App.{App}
 use Rattle.chk_base.specs.declared.place.Place.{Place}
 use Rattle.osek_machine.specs.Kept.{Kept}
@@ -13,7 +13,7 @@ use Rattle.step_ir.specs.declared.event.EventAction.TheVariants as action
 use Rattle.step_ir.specs.declared.event.Failure.{Failure}
 use Rattle.step_ir.specs.EntityStep.{is_failure}
 use Rattle.step_ir.specs.PermittedSchedule.{arrivals_in, events_of, fails}
-use Rattle.oschk_cmd.specs.OneRun.{steps, failure_of, failure_at, last_failure, IsRunOf}
+use Rattle.oschk_cmd.specs.OneRun.{steps, failure_of, failure_at, last_failure, IsRunOf, NoneFails}
 
 -- one more step
 pub steps-append : (n : ℕ) → steps n ++ Go ∷ [] ≡ steps (n + 1)
@@ -61,14 +61,24 @@ no_failure es unfailed = none (last_failure es) (sym (fails-last es) ∙ unfaile
     none (Some x) is = absurd cc
 
 -- what a machine has run is a permitted schedule
-pub is_run : (app : App) (code : Code) (k : ℕ) (events : List Event) (found : Option (Failure × Place)) (m : Kept) → HasRun app code (steps (length events)) events m → length events ≤ k → found ≡ last_failure events → IsRunOf app code k events found
-is_run app code k events found m run short is =
+pub is_run : (app : App) (code : Code) (k : ℕ) (events : List Event) (found : Option (Failure × Place)) (m : Kept) → HasRun app code (steps (length events)) events m → length events ≤ k → found ≡ last_failure events → (found ≡ None → NoneFails app code k) → IsRunOf app code k events found
+is_run app code k events found m run short is holds =
     let few = no_arrivals (length events) in
     record {
       schedule = record { choices = steps (length events); permitted = ap events_of run.run; short = short; few = omega (arith, few) };
       failure = is;
       fails = fails-last events ∙ ap is_some (sym is);
+      holds = holds;
     }
+
+-- the failure of an event that fails is one
+pub failure-some : (e : Event) (es : List Event) → fails (es ++ e ∷ []) ≡ true → failure_at e (failure_of e.action) ≢ None
+failure-some e es failed none = never (sym (fails-last (es ++ e ∷ [])) ∙ failed)
+  where
+    never : is_some (last_failure (es ++ e ∷ [])) ≡ true → ⊥
+    never some =
+        let is : is_some (failure_at e (failure_of e.action)) ≡ true = ap is_some (sym (last_failure-append es e)) ∙ some in
+        let no : ◌≡◌ {A = Bool} false true = sym (ap is_some none) ∙ is in cc
 
 -- one more event after one more step
 pub next_run : (app : App) (code : Code) (events next : List Event) (event : Event) (m : Kept) → next ≡ events ++ event ∷ [] → HasRun app code (steps (length events) ++ Go ∷ []) (events ++ event ∷ []) m → HasRun app code (steps (length next)) next m

@@ -10,3 +10,4 @@ pub mod FirstCParts
 pub mod OneRun
 pub mod Status
 pub mod Answers
+pub mod Headline

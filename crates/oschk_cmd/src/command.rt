@@ -2,6 +2,7 @@
 ghost use Rattle.std.specs.Prelude.{◌≡◌, ◌≢◌};
 ghost use Rattle.chk_base.specs.Causes.{Rose};
 ghost use Rattle.oschk_cmd.specs.Answers.{AreNone, IsAnswered, IsReply, IsReplyOf, HasReadFaultOf, is_fault, reply_status, reply_text, status_after};
+ghost use Rattle.oschk_cmd.specs.Headline.{HasFailed, Holds};
 ghost use Rattle.oschk_cmd.specs.RunWords.{plain_run};
 
 use crate::reply::{LIMIT, Reply, reply_to};
@@ -86,6 +87,10 @@ fn is_fault(reply: &Reply) -> bool
 /// program's name.
 pub fn oschk<D: Desk, S: Sink>(alloc: Global, words: &Words, desk: &mut D, out: &mut S) -> Status
     ensures answered { IsAnswered words.now (D.state desk.old) (D.state desk.new) (S.state out.old) (S.state out.new) result }
+
+    // The headline: it ends well only if no permitted schedule fails, and in a failure only if one does.
+    ensures holds { result ≡ Status.Good → Holds words.now (D.state desk.old) }
+    ensures fails { result ≡ Status.Fails → HasFailed words.now (D.state desk.old) }
 
     // Each way to end badly comes by its cause.
     ensures usage { result ≡ Status.Usage → AreNone words.now }

@@ -2,7 +2,7 @@
 ghost use Rattle.std.specs.Prelude.{◌≡◌, ◌≤◌, IfOk};
 ghost use Rattle.app_model.specs.InOrder.{IsInOrder};
 ghost use Rattle.step_ir.specs.Fits.{Fits};
-ghost use Rattle.oschk_cmd.specs.OneRun.{IsRunOf, failure_of, failure_at};
+ghost use Rattle.oschk_cmd.specs.OneRun.{IsRunOf, TakesNoInput, failure_of, failure_at};
 
 use app_model::app::App;
 use chk_base::place::Place;
@@ -28,10 +28,12 @@ fn failure_at(event: &Event) -> Option<(Failure, Place)>
     }
 }
 
-/// Up to so many steps from the start, each of who runs then. It ends sooner where a step fails or nobody can go on.
+/// Up to so many steps from the start, each of who runs then. It ends sooner where a step fails or nobody can go on. If it has no failure,
+/// then no permitted schedule of so many events without arrivals fails, since each is a prefix of this run.
 pub fn one_run(alloc: Global, app: &App, code: &Code, turns: u16) -> Result<OneRun, AllocError>
     requires order { IsInOrder app.now }
     requires fit { Fits app.now code.now }
+    requires no_input { TakesNoInput code.now }
     ensures { IfOk result (λ run. IsRunOf app.now code.now turns run.events run.found) }
 {
     let mut machine = Machine::new(alloc, app, code)?;

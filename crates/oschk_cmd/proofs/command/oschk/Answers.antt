@@ -2,6 +2,7 @@ use Rattle.std.proofs.Common.{ℕ, List, sym, subst, ◌∙◌, ap}
 use Rattle.chk_base.specs.Sink.{WritesAll}
 use Rattle.oschk_cmd.specs.Answers.{status_after}
 use Rattle.oschk_cmd.proofs.Replies.{fault_status, write_status}
+use Rattle.oschk_cmd.proofs.Verdicts.{fails_of, holds_of}
 use Rattle.oschk_cmd.proofs.command.oschk.Goals as goal
 
 pub returns-in-Ok-clause-answered : goal.returns-in-Ok-clause-answered
@@ -50,3 +51,21 @@ returns-clause-answered g c =
           write_status c.reply-reply.result c.in-Err.field-0 (sym c.is_fault.ensures ∙ c.if-is_fault.false)
           ∙ ap (status_after c.reply-reply.result) (sym c.in-Err.is);
     }
+
+pub returns-in-Ok-clause-holds : goal.returns-in-Ok-clause-holds
+returns-in-Ok-clause-holds g c = λ good. holds_of _ _ _ _ _ _ (returns-in-Ok-clause-answered g c) good
+
+pub returns-in-Ok-clause-fails : goal.returns-in-Ok-clause-fails
+returns-in-Ok-clause-fails g c = λ failed. fails_of _ _ _ _ _ _ (returns-in-Ok-clause-answered g c) failed
+
+pub returns-then-is_fault-clause-holds : goal.returns-then-is_fault-clause-holds
+returns-then-is_fault-clause-holds g c = λ good. holds_of _ _ _ _ _ _ (returns-then-is_fault-clause-answered g c) good
+
+pub returns-then-is_fault-clause-fails : goal.returns-then-is_fault-clause-fails
+returns-then-is_fault-clause-fails g c = λ failed. fails_of _ _ _ _ _ _ (returns-then-is_fault-clause-answered g c) failed
+
+pub returns-clause-holds : goal.returns-clause-holds
+returns-clause-holds g c = λ good. holds_of _ _ _ _ _ _ (returns-clause-answered g c) good
+
+pub returns-clause-fails : goal.returns-clause-fails
+returns-clause-fails g c = λ failed. fails_of _ _ _ _ _ _ (returns-clause-answered g c) failed

@@ -2,7 +2,8 @@ use Rattle.std.proofs.Common.{◌≡◌, ◌+◌, ◌∷◌, [], length, length-
 use Rattle.step_ir.specs.declared.event.Event.{Event}
 use Rattle.step_ir.specs.PermittedSchedule.{fails}
 use Rattle.oschk_cmd.specs.OneRun.{steps, last_failure}
-use Rattle.oschk_cmd.proofs.Runs.{is_run, last_failure-append, next_run, no_failure}
+use Rattle.oschk_cmd.proofs.OnlyRun.{AreHarmless, harmless-append, none_fails}
+use Rattle.oschk_cmd.proofs.Runs.{failure-some, is_run, last_failure-append, next_run, no_failure}
 use Rattle.oschk_cmd.proofs.one_run.one_run.Goals as goal
 
 pub loop-preserved : goal.loop-preserved
@@ -14,6 +15,11 @@ loop-preserved c =
       count = omega (arith, count, c.loop.invariant.count);
       arrivals = omega (arith, c.in-Event.ensures.arrivals, c.loop.invariant.arrivals);
       fails = subst (λ (es : List Event). fails es ≡ false) (sym c.in_ok-push-in-Event.ensures.ok) answered.1;
+      harmless =
+          subst
+          AreHarmless
+          (sym c.in_ok-push-in-Event.ensures.ok)
+          (harmless-append c.loop.events c.in-Event.event c.loop.invariant.harmless answered.1);
     }
 
 pub returns-in-Failed : goal.returns-in-Failed
@@ -25,12 +31,21 @@ returns-in-Failed c =
     (omega (arith, count, c.loop.invariant.count))
     (c.failure_at-found.ensures
     ∙ sym (ap last_failure c.in_ok-push-in-Failed.ensures.ok ∙ last_failure-append c.loop.events c.in-Failed.event))
+    (λ none. absurd (failure-some c.in-Failed.event c.loop.events answered.1 (sym c.failure_at-found.ensures ∙ none)))
 
 pub returns-in-Refused : goal.returns-in-Refused
 returns-in-Refused c =
     let answered = c.in-Refused.ensures.run c.args.app.now c.args.code.now (steps (length c.loop.events)) c.loop.events c.loop.invariant.run in
-    is_run _ _ _ _ _ _ answered.0 (omega (arith, c.loop.invariant.count)) (no_failure c.loop.events c.loop.invariant.fails)
+    is_run _ _ _ _ _ _
+    answered.0
+    (omega (arith, c.loop.invariant.count))
+    (no_failure c.loop.events c.loop.invariant.fails)
+    (λ none. none_fails _ _ c.requires.no_input _ _ _ c.loop.invariant.run c.loop.invariant.harmless (λ more. answered.1))
 
 pub returns : goal.returns
 returns c =
-    is_run _ _ _ _ _ _ c.loop.invariant.run (omega (arith, c.loop.invariant.count)) (no_failure c.loop.events c.loop.invariant.fails)
+    is_run _ _ _ _ _ _
+    c.loop.invariant.run
+    (omega (arith, c.loop.invariant.count))
+    (no_failure c.loop.events c.loop.invariant.fails)
+    (λ none. none_fails _ _ c.requires.no_input _ _ _ c.loop.invariant.run c.loop.invariant.harmless (λ more. absurd (omega (arith, more, c.loop.invariant.count))))

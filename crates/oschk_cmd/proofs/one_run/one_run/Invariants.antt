@@ -2,6 +2,7 @@ use Rattle.std.proofs.Common.{◌≡◌, ◌≤◌, false, length}
 use Rattle.osek_machine.specs.Steps.{HasRun, view_of}
 use Rattle.step_ir.specs.PermittedSchedule.{fails}
 use Rattle.oschk_cmd.specs.OneRun.{steps}
+use Rattle.oschk_cmd.proofs.OnlyRun.{AreHarmless}
 use Rattle.oschk_cmd.proofs.one_run.one_run.Given as goal
 
 abbrev pub invariant-loop : goal.invariant-loop
@@ -11,4 +12,5 @@ invariant-loop l =
       count : length l.events ≡ l.counter;
       arrivals : (view_of l.machine).arrivals ≤ l.counter;
       fails : fails l.events ≡ false;
+      harmless : AreHarmless l.events;
     }

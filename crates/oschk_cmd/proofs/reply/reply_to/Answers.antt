@@ -3,7 +3,7 @@ use Rattle.app_model.specs.declared.app.App.{App}
 use Rattle.step_ir.specs.Fits.{Fits}
 use Rattle.oschk_cmd.specs.FirstC.{plain_c}
 use Rattle.oschk_cmd.specs.FirstOil.{plain_oil}
-use Rattle.oschk_cmd.proofs.FirstFits.{first_few, first_fits, places_length}
+use Rattle.oschk_cmd.proofs.FirstFits.{first_few, first_fits, first_inputs, places_length}
 use Rattle.oschk_cmd.proofs.reply.reply_to.Goals as goal
 
 pub one_run-requires-clause-fit : goal.one_run-requires-clause-fit
@@ -24,6 +24,10 @@ one_run-requires-clause-fit c =
     form.few_statements
     form.within
     ends)
+
+pub one_run-requires-clause-no_input : goal.one_run-requires-clause-no_input
+one_run-requires-clause-no_input c =
+    first_inputs (plain_oil c.in-Some-oil_form.oil_form) (plain_c c.in-Some-3.c_form) c.deref-3.result.now c.in_ok-code.code c.in_ok-code.ensures
 
 pub put_run-requires : goal.put_run-requires
 put_run-requires c =
