@@ -5,7 +5,7 @@ set -euo pipefail
 here=$(cd "$(dirname "$0")" && pwd)
 top=$(cd "$here/../.." && pwd)
 work=${1:-$(mktemp -d)}
-mkdir -p "$work/crates/check_lines/src" "$work/crates/check_lines/proofs/clause_of"
+mkdir -p "$work/crates/check_lines/src" "$work/crates/check_lines/proofs/formula_words/clause_of"
 cp -r "$top/crates/clause_form" "$top/crates/proof_check" "$work/crates/"
 cat >"$work/crates.txt" <<'END'
 clause_form: smallvec thiserror
@@ -13,10 +13,11 @@ proof_check: clause_form smallvec
 check_lines: clause_form proof_check
 END
 cp "$here/check_lines.txt" "$work/crates/check_lines/src/main.rt"
+cp "$here/../formula_words.txt" "$work/crates/check_lines/src/formula_words.rt"
 # The program makes its clauses as the tests of proof_check do, so it takes that function's proof.
 for file in Invariants Answers; do
-    sed 's/Rattle.proof_check.proofs.tests/Rattle.check_lines.proofs/' \
-        "$top/crates/proof_check/proofs/tests/clause_of/$file.antt" >"$work/crates/check_lines/proofs/clause_of/$file.antt"
+    sed 's/Rattle.proof_check.proofs.tests/Rattle.check_lines.proofs.formula_words/' \
+        "$top/crates/proof_check/proofs/tests/clause_of/$file.antt" >"$work/crates/check_lines/proofs/formula_words/clause_of/$file.antt"
 done
 python3 "$here/make_log.py" "$work/log" 100000
 cc -O2 -o "$work/check_lines_c" "$here/check_lines.c"
