@@ -1,0 +1,2 @@
+-- The laws of exact formats.
+pub mod Exact
