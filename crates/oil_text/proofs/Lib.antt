@@ -1,0 +1,13 @@
+pub mod Lists
+pub mod Longest
+pub mod PieceLaws
+pub mod Places
+pub mod Cutting
+pub mod Decides
+pub mod Classes
+pub mod Opened
+pub mod Repeated
+pub mod Braces
+pub mod Whole
+pub mod Exact
+pub mod Worked

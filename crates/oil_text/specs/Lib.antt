@@ -1,0 +1,14 @@
+pub mod PlainAttributes
+pub mod Listed
+pub mod PlainCode
+pub mod Levels
+pub mod Bytes
+pub mod ByteClass
+pub mod Pieces
+pub mod OilTokens
+pub mod Refusals
+pub mod OilGrammar
+pub mod OilMeaning
+pub mod OilLookahead
+pub mod OilReading
+pub mod OilText
