@@ -1,1 +1,7 @@
 pub mod Greatest
+pub mod Steps
+pub mod Accepted
+pub mod Bounded
+pub mod Distinct
+pub mod Orderly
+pub mod Whole

@@ -49,19 +49,31 @@ task_declares r t = has_number t.declares r || is_number t.internal r
 abbrev pub routine_declares : ℕ → Routine → Bool
 routine_declares r i = has_number i.declares r
 
--- the ceiling of a resource: the greatest level of the tasks and routines that declare it
+-- the ceiling of a resource: the greatest level of those of these tasks and routines that declare it
+abbrev pub ceiling_among : List Task → List Routine → ℕ → ℕ
+ceiling_among tasks routines r =
+    greatest (levels_of (filter (task_declares r) tasks) ++ routine_levels_of (filter (routine_declares r) routines))
+
+-- the same in an application
 abbrev pub ceiling_of : App → ℕ → ℕ
-ceiling_of app r =
-    greatest (levels_of (filter (task_declares r) app.tasks) ++ routine_levels_of (filter (routine_declares r) app.routines))
+ceiling_of app r = ceiling_among app.tasks app.routines r
 
--- the greatest level of the tasks that declare this internal resource, and the own level without one
+-- the greatest level of those of these tasks that declare this internal resource, and the own level without one
+abbrev pub internal_among : List Task → ℕ → Option ℕ → ℕ
+internal_among tasks own None = own
+internal_among tasks own (Some r) = greatest (levels_of (filter (λ t. is_number t.internal r) tasks))
+
+-- the same in an application
 abbrev pub internal_level : App → ℕ → Option ℕ → ℕ
-internal_level app own None = own
-internal_level app own (Some r) = greatest (levels_of (filter (λ t. is_number t.internal r) app.tasks))
+internal_level app own internal = internal_among app.tasks own internal
 
--- the run level of a task: a non-preemptive one has the highest of all tasks
+-- the run level of a task among these: a non-preemptive one has the highest of all
+abbrev pub run_level_among : List Task → Task → ℕ
+run_level_among tasks t = if t.non_preemptive then greatest (levels_of tasks) else internal_among tasks t.level t.internal
+
+-- the same in an application
 abbrev pub run_level_of : App → Task → ℕ
-run_level_of app t = if t.non_preemptive then highest_task_level app else internal_level app t.level t.internal
+run_level_of app t = run_level_among app.tasks t
 
 -- some task may have more than one request
 abbrev pub has_many_requests : List Task → Bool

@@ -1,6 +1,7 @@
 // The application, as an OIL text configures it.
 ghost use Rattle.std.specs.Prelude.{◌≡◌, OnOk, OnErr, length, slice_get, [], ◌∷◌, ◌++◌};
 ghost use Rattle.std.specs.Option.{option_copied};
+ghost use Rattle.app_model.specs.RunLevels.{with_run_levels};
 
 use chk_base::place::Place;
 use chk_base::text::Text;
@@ -155,6 +156,16 @@ impl Tasks {
         ensures { result.now ≡ self.now }
     {
         self.items.as_slice()
+    }
+
+    // Gives each task its run level.
+    pub(crate) fn set_run_levels(&mut self, levels: &[u8])
+        requires { length levels.now ≡ length self.old }
+        ensures { self.new ≡ with_run_levels levels.now self.old }
+    {
+        for i in 0..self.items.len() {
+            self.items[i].run_level = levels[i];
+        }
     }
 }
 

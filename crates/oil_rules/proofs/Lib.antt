@@ -1,0 +1,4 @@
+pub mod Firsts
+pub mod Numbers
+pub mod NameSets
+pub mod Least
