@@ -1,0 +1,10 @@
+pub mod Closing
+pub mod Cursors
+pub mod Marks
+pub mod Names
+pub mod Values
+pub mod Pieces
+pub mod Reading
+pub mod OneReading
+pub mod Worked
+pub mod Within

@@ -1,0 +1,16 @@
+// C bytes to tokens, each with its place.
+#![tactic(auto)]
+
+mod blanks;
+mod bytes;
+mod cursor;
+pub mod fault;
+pub mod law;
+pub mod lexing;
+mod number;
+mod piece;
+#[cfg(test)]
+mod tests;
+pub mod token;
+pub mod tokens;
+mod words;
