@@ -10,3 +10,4 @@ pub mod Changing
 pub mod Beginning
 pub mod Steps
 pub mod Sample
+pub mod Inputs

@@ -5,6 +5,7 @@ ghost use Rattle.osek_machine.specs.Beginning.{starts_at};
 ghost use Rattle.osek_machine.specs.CellWords.{bits};
 ghost use Rattle.osek_machine.specs.Changing.{Changes, IsDeed, IsFinished, IsServable};
 ghost use Rattle.osek_machine.specs.Faults.{ended_by, first_or};
+ghost use Rattle.osek_machine.specs.Inputs.{input_at};
 ghost use Rattle.osek_machine.specs.Kept.{entities_of, state_of};
 ghost use Rattle.osek_machine.specs.Performing.{IsPerformed, choice_of};
 ghost use Rattle.osek_machine.specs.Steps.{GoesOn, HasRun, IsStep, StandsAt, entity_or_none, start_of, view_of};
@@ -28,7 +29,7 @@ use crate::lists::{
     restart_point,
 };
 use crate::perform::Performed;
-use crate::points::{perform_at, place_at, point_number};
+use crate::points::{input_at, perform_at, place_at, point_number};
 use crate::ready::{Waiting, put_first, take_highest};
 use crate::starts::start_cells;
 use app_model::app::{App, Entity};
@@ -181,6 +182,18 @@ impl<'a> Machine<'a> {
             stopped: self.stopped,
             arrivals: self.arrivals,
         }
+    }
+
+    /// The number of the cell that takes the word of the input at which the running routine or task stands. None where it stands at
+    /// no input, where nobody runs, and after a failure.
+    pub fn input(&self) -> Option<u16>
+        ensures { result ≡ input_at self.now.app self.now.code (state_of self.now) }
+    {
+        if self.stopped {
+            return None;
+        }
+        let e = self.actor()?;
+        input_at(self.code, e, point_number(self.points.as_slice(), e))
     }
 
     // The active routine of the greatest level, else the running task.

@@ -3,9 +3,10 @@ ghost use Rattle.std.specs.Option.{option_copied};
 ghost use Rattle.std.specs.Prelude.{◌≡◌, ◌≤◌, length, slice_get, slice_index, vec_capacity};
 ghost use Rattle.osek_machine.specs.CellWords.{bits, widths};
 ghost use Rattle.osek_machine.specs.Faults.{beyond};
+ghost use Rattle.osek_machine.specs.Inputs.{input_in};
 ghost use Rattle.osek_machine.specs.Kept.{IsFixed, IsOver};
 ghost use Rattle.osek_machine.specs.Performing.{IsPerformed, choice_of};
-ghost use Rattle.step_ir.specs.Points.{points_of};
+ghost use Rattle.step_ir.specs.Points.{points_in, points_of};
 ghost use Rattle.step_ir.specs.PointStep.{behaviour_of};
 
 use crate::perform::{Performed, perform};
@@ -13,7 +14,7 @@ use app_model::app::App;
 use chk_base::cells::Cells;
 use chk_base::place::Place;
 use chk_base::word::Word;
-use step_ir::code::{Code, Point};
+use step_ir::code::{Action, Code, Point};
 use step_ir::law::cells_within;
 
 const NOWHERE: Place = Place {
@@ -38,6 +39,16 @@ pub fn place_at(code: &Code, e: u8, at: u16) -> Place
     match point_at(code, e, at) {
         None => NOWHERE,
         Some(point) => point.place,
+    }
+}
+
+/// The cell that takes the word of an entity's point, if it is an input.
+pub fn input_at(code: &Code, e: u8, at: u16) -> Option<u16>
+    ensures { result ≡ input_in (slice_get (points_in code.now e) at) }
+{
+    match point_at(code, e, at)?.action {
+        Action::Input(cell) => Some(cell),
+        _ => None,
     }
 }
 
