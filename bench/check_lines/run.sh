@@ -6,12 +6,11 @@ here=$(cd "$(dirname "$0")" && pwd)
 top=$(cd "$here/../.." && pwd)
 work=${1:-$(mktemp -d)}
 mkdir -p "$work/crates/check_lines/src" "$work/crates/check_lines/proofs/formula_words/clause_of"
-cp -r "$top/crates/clause_form" "$top/crates/proof_check" "$work/crates/"
-cat >"$work/crates.txt" <<'END'
-clause_form: smallvec thiserror
-proof_check: clause_form smallvec
-check_lines: clause_form proof_check
-END
+for crate in chk_base grammar format clause_form cert_form proof_check; do
+    cp -r "$top/crates/$crate" "$work/crates/"
+done
+grep -E '^(chk_base|grammar|format|clause_form|cert_form|proof_check):' "$top/crates.txt" >"$work/crates.txt"
+echo 'check_lines: clause_form proof_check' >>"$work/crates.txt"
 cp "$here/check_lines.txt" "$work/crates/check_lines/src/main.rt"
 cp "$here/../formula_words.txt" "$work/crates/check_lines/src/formula_words.rt"
 # The program makes its clauses as the tests of proof_check do, so it takes that function's proof.

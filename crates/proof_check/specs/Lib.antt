@@ -1,3 +1,5 @@
 pub mod Answers
 pub mod Checkers
 pub mod Lefts
+pub mod Certs
+pub mod Checks

@@ -1,5 +1,5 @@
 // The checker of lines.
-ghost use Rattle.std.specs.Prelude.{◌≡◌, [], Ok, IfOk, OnErr, OnOk, map};
+ghost use Rattle.std.specs.Prelude.{◌≡◌, ◌++◌, ◌∷◌, [], Ok, IfOk, OnErr, OnOk, map};
 ghost use Rattle.clause_form.specs.ClauseTruth.{HasNoModel};
 ghost use Rattle.clause_form.specs.DerivedLine.{closes, is_derived};
 ghost use Rattle.proof_check.specs.Answers.{step_of, after};
@@ -79,6 +79,26 @@ impl Checker {
         self.clauses.push(clause)?;
         Ok(if empty { Step::Done } else { Step::Good })
     }
+}
+
+// A checker over the formula's clauses and the goal after them.
+pub(crate) fn with_goal(
+    alloc: Global,
+    formula: &Formula,
+    goal: &Clause,
+) -> Result<Checker, AllocError>
+    ensures { IfOk result (λ c. c ≡ record { variables = formula.now.variables; formula = formula.now.clauses ++ goal.now ∷ []; lines = [] }) }
+{
+    let mut clauses = copies(alloc, &formula.clauses)?;
+    clauses.push(goal.copy(alloc)?)?;
+    let given = clauses.len();
+    Ok(Checker {
+        alloc,
+        variables: formula.variables,
+        clauses,
+        given,
+        set: LitSet::new(alloc),
+    })
 }
 
 // Equal clauses, in order.

@@ -1,0 +1,13 @@
+use Rattle.std.proofs.lemmas.Result.{err_from_is_err_and}
+use denote.Ref.{Bor}
+use Rattle.std.proofs.Common.{ℕ, List}
+use Rattle.cert_form.specs.Texts.{tokens}
+use Rattle.cert_form.proofs.Readers.{err_by}
+use Rattle.cert_form.specs.Parts.{labels_read, label_read}
+use Rattle.cert_form.proofs.LabelParts.{labels_stuck}
+use Rattle.cert_form.proofs.labels.labels.Goals as goal
+
+pub returns-in_err-rest-clause-gives : goal.returns-in_err-rest-clause-gives
+returns-in_err-rest-clause-gives c =
+    let p = err_from_is_err_and c.from_residual.result c.from_residual.ensures.1 in
+    rw (p.1, p.2) (err_by {V = Bor (List ℕ)} {W = Bor (List ℕ)} c.in_err-rest.field-0.0 (labels_read 0 c.args.count) (label_read c.loop-number.number) c.args.text.now c.loop-number.rest.now (λ _. tt) (λ r. r.now) (λ _. tt) (λ r. r.now) (λ left e. labels_stuck (labels_read 0 c.args.count (tokens c.args.text.now)) c.loop-number.number c.args.count (tokens c.loop-number.rest.now) left c.loop-number-test.true c.loop-number.invariant.same e) c.in_err-rest.ensures.gives)
