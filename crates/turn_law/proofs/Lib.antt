@@ -1,0 +1,11 @@
+pub mod Built
+pub mod Describing
+pub mod Examples
+pub mod Freedom
+pub mod Induction
+pub mod Moving
+pub mod Offering
+pub mod Padding
+pub mod Shaping
+pub mod Taking
+pub mod Turning

@@ -1,0 +1,16 @@
+pub mod Advancing
+pub mod Allowing
+pub mod Demanding
+pub mod Fitting
+pub mod Joining
+pub mod Making
+pub mod Offering
+pub mod Opening
+pub mod Picking
+pub mod Proceeding
+pub mod Setting
+pub mod Showing
+pub mod Starting
+pub mod Turned
+pub mod Waying
+pub mod Wording

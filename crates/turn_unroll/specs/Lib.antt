@@ -1,0 +1,14 @@
+pub mod Cells
+pub mod Demands
+pub mod Encodings
+pub mod Grids
+pub mod Labels
+pub mod Offers
+pub mod Places
+pub mod Rows
+pub mod Stack
+pub mod Starts
+pub mod Turns
+pub mod Unrolls
+pub mod Ways
+pub mod Words

@@ -1,0 +1,17 @@
+// The turns of a guarded program as a formula.
+#![tactic(auto)]
+
+mod cells;
+mod demands;
+pub mod encoding;
+pub mod grid;
+mod guards;
+mod labels;
+mod offers;
+mod rows;
+mod stack;
+mod start;
+mod turn;
+pub mod unroll;
+mod ways;
+mod words;
