@@ -6,36 +6,35 @@ use oschk_cmd::command::oschk;
 use std::alloc::{AllocError, Global};
 use std::test::Fail;
 
-const OIL: &str =
-    "OIL_VERSION = \"2.5\";\nCPU c {\nOS o { STATUS = EXTENDED; };\nAPPMODE M { };\nTASK T { PRIORITY = 1; SCHEDULE = FULL; ACTIVATION = 1; AUTOSTART = TRUE { APPMODE = M; }; };\n};\n";
+// A text in parts.
+type Parts = &'static [&'static str];
 
-const TWO_REQUESTS: &str =
-    "OIL_VERSION = \"2.5\";\nCPU c {\nOS o { STATUS = EXTENDED; };\nAPPMODE M { };\nTASK T { PRIORITY = 1; SCHEDULE = FULL; ACTIVATION = 2; AUTOSTART = TRUE { APPMODE = M; }; };\n};\n";
+const HEAD: &str =
+    "OIL_VERSION = \"2.5\";\nCPU c {\nOS o { STATUS = EXTENDED; };\nAPPMODE M { };\n";
 
-const HOLDS: &str = "uint8_t x;\nTASK(T) {\n  x = 1;\n  assert(x == 1);\n  TerminateTask();\n}\n";
+const TASK: &str =
+    "TASK T { PRIORITY = 1; SCHEDULE = FULL; ACTIVATION = 1; AUTOSTART = TRUE { APPMODE = M; }; };\n";
 
-const FAILS: &str = "uint8_t x;\nTASK(T) {\n  x = 1;\n  assert(x == 2);\n  TerminateTask();\n}\n";
+const LATER: &str =
+    "TASK H { PRIORITY = 2; SCHEDULE = FULL; ACTIVATION = 1; AUTOSTART = FALSE; };\n";
 
-const TOO_LARGE: &str =
-    "uint8_t x;\nTASK(T) {\n  x = 256;\n  assert(x == 1);\n  TerminateTask();\n}\n";
+const TAIL: &str = "};\n";
 
-const WORDS: [&str; 6] = [
-    "run",
-    "app.oil",
-    "app.c",
-    "--turns=8",
-    "--arrivals=0",
-    "--cert=app.cert",
+const OIL: Parts = &[HEAD, TASK, TAIL];
+
+const HOLDS: Parts = &[
+    "uint8_t x;\nTASK(T) {\n  x = 1;\n",
+    "  assert(x == 1);\n",
+    "  TerminateTask();\n}\n",
 ];
 
-const TWO_TURNS: [&str; 6] = [
-    "run",
-    "app.oil",
-    "app.c",
-    "--turns=2",
-    "--arrivals=0",
-    "--cert=app.cert",
+const FAILS: Parts = &[
+    "uint8_t x;\nTASK(T) {\n  x = 1;\n",
+    "  assert(x == 2);\n",
+    "  TerminateTask();\n}\n",
 ];
+
+const RUN: &str = "run app.oil app.c --turns=8 --arrivals=0 --cert=app.cert";
 
 const REPORT: &str = "oschk run\nclass BCC1\nbounds 8 0\npoints 5\nverdict holds\n";
 
@@ -44,31 +43,59 @@ const REPORT_OF_TWO_TURNS: &str = "oschk run\nclass BCC1\nbounds 2 0\npoints 5\n
 const REPORT_OF_THE_FAILURE: &str =
     "oschk run\nclass BCC1\nbounds 8 0\npoints 5\nverdict fails F1 at 4:3\n1 T write x=1 -> T\n2 T read x=1 -> T\n3 T fail F1 -> stop\nschedule\ngo\ngo\ngo\n";
 
-// What the program is called with: its words, its two files, and the call of the desk and that of the output that fails, 0 for none.
+// A certificate in parts: its title, its bounds and sizes, its two clauses, and what comes before the lines of its log.
+const TITLE: &str = "oschk certificate 1\nbounds 1 0\n";
+
+const BUDGET: &str = "budget 10\n";
+
+const SIZES: &str = "variables 2\nclauses 2\n";
+
+const FIRST: &str = "1 0\n";
+
+const SECOND: &str = "-1 2 0\n";
+
+const GOAL: &str =
+    "goal -1 -2 0\nlabels 1\nlabel 0 idle\ndepth 0 0 1\ndepth 1 0 1\nturn 1 0 1\nlog\n";
+
+// What the program is called with: its words, its files, and the call of the desk and that of the output that fails, 0 for none.
 #[derive(Clone, Copy)]
-struct Case<'a> {
-    words: &'a [&'a str],
-    oil: &'a str,
-    c: &'a str,
+struct Case {
+    words: &'static str,
+    oil: Parts,
+    c: Parts,
+    cert: Parts,
     desk_fails_at: u64,
     out_fails_at: u64,
 }
 
-fn faultless<'a>(words: &'a [&'a str], oil: &'a str, c: &'a str) -> Case<'a> {
+fn run(words: &'static str, oil: Parts, c: Parts) -> Case {
     Case {
         words,
         oil,
         c,
+        cert: &[],
         desk_fails_at: 0,
         out_fails_at: 0,
     }
 }
 
-fn with_faults(desk_fails_at: u64, out_fails_at: u64) -> Case<'static> {
+fn check(cert: Parts) -> Case {
     Case {
-        words: &WORDS,
+        words: "check app.cert",
+        oil: &[],
+        c: &[],
+        cert,
+        desk_fails_at: 0,
+        out_fails_at: 0,
+    }
+}
+
+fn with_faults(desk_fails_at: u64, out_fails_at: u64) -> Case {
+    Case {
+        words: RUN,
         oil: OIL,
         c: HOLDS,
+        cert: &[],
         desk_fails_at,
         out_fails_at,
     }
@@ -81,31 +108,40 @@ struct Ended {
     text: Text,
 }
 
-fn text(alloc: Global, text: &str) -> Result<Text, AllocError> {
-    Text::from_bytes(alloc, text.as_bytes())
-}
-
-fn words_of(alloc: Global, words: &[&str]) -> Result<Words, AllocError> {
-    let mut list = Words::new(alloc);
-    for word in words {
-        list.push(text(alloc, word)?)?;
+fn text(alloc: Global, parts: &[&str]) -> Result<Text, AllocError> {
+    let mut text = Text::new(alloc);
+    for part in parts {
+        text.append(part.as_bytes())?;
     }
-    Ok(list)
+    Ok(text)
 }
 
-fn put(alloc: Global, desk: &mut MemDesk, name: &str, bytes: &str) -> Result<(), AllocError> {
-    desk.put(&text(alloc, name)?, &text(alloc, bytes)?)
+// The words of a line, with one blank between each and the next.
+fn words_of(alloc: Global, line: &str) -> Result<Words, AllocError> {
+    let mut words = Words::new(alloc);
+    if line.is_empty() {
+        return Ok(words);
+    }
+    for word in line.split(' ') {
+        words.push(Text::from_bytes(alloc, word.as_bytes())?)?;
+    }
+    Ok(words)
 }
 
-fn desk_of(alloc: Global, case: &Case<'_>) -> Result<MemDesk, AllocError> {
+fn put(alloc: Global, desk: &mut MemDesk, name: &str, parts: &[&str]) -> Result<(), AllocError> {
+    desk.put(&text(alloc, &[name])?, &text(alloc, parts)?)
+}
+
+fn desk_of(alloc: Global, case: &Case) -> Result<MemDesk, AllocError> {
     let mut desk = MemDesk::new(alloc);
     put(alloc, &mut desk, "app.oil", case.oil)?;
     put(alloc, &mut desk, "app.c", case.c)?;
+    put(alloc, &mut desk, "app.cert", case.cert)?;
     desk.fail_at(case.desk_fails_at)?;
     Ok(desk)
 }
 
-fn out_of(alloc: Global, case: &Case<'_>) -> Result<MemSink, AllocError> {
+fn out_of(alloc: Global, case: &Case) -> Result<MemSink, AllocError> {
     let mut out = MemSink::new(alloc, 1_048_576)?;
     out.fail_at(case.out_fails_at)?;
     Ok(out)
@@ -124,40 +160,491 @@ fn called(
     })
 }
 
-fn result_of(alloc: Global, case: &Case<'_>) -> Result<Ended, AllocError> {
+fn result_of(alloc: Global, case: &Case) -> Result<Ended, AllocError> {
     let words = words_of(alloc, case.words)?;
     let desk = desk_of(alloc, case)?;
     let out = out_of(alloc, case)?;
     called(alloc, &words, desk, out)
 }
 
+// Words, an OIL text, a C text, the number that the program ends with, and what it writes.
+type Run = (&'static str, Parts, Parts, u8, &'static str);
+
+const RUNS: [Run; 8] = [
+    (RUN, OIL, HOLDS, 0, REPORT),
+    (RUN, OIL, FAILS, 1, REPORT_OF_THE_FAILURE),
+    (
+        "run --cert=app.cert --turns 2 app.oil --arrivals=0 app.c",
+        OIL,
+        FAILS,
+        0,
+        REPORT_OF_TWO_TURNS,
+    ),
+    (
+        "run app.oil app.c --turns=8 --arrivals=0 --cert=app.cert --mode=M",
+        OIL,
+        HOLDS,
+        0,
+        REPORT,
+    ),
+    (
+        "run app.oil app.c --turns=8 --arrivals=0 --cert=app.cert --mode=N",
+        OIL,
+        HOLDS,
+        3,
+        "refused OIL RULE A19 at 2:5\n",
+    ),
+    (
+        "run app.oil app.c --turns=08 --arrivals=0 --cert=app.cert",
+        OIL,
+        HOLDS,
+        4,
+        "oschk: usage\n",
+    ),
+    ("run app.oil", OIL, HOLDS, 4, "oschk: usage\n"),
+    ("", OIL, HOLDS, 4, "oschk: usage\n"),
+];
+
+fn runs() -> &'static [Run] {
+    &RUNS
+}
+
 #[test]
 fn the_worked_cases_end_as_they_should(rt: HostRuntime) -> Result<(), Fail> {
-    let alloc = rt.alloc();
-    let cases = [
-        (faultless(&WORDS, OIL, HOLDS), 0, REPORT),
-        (faultless(&WORDS, OIL, FAILS), 1, REPORT_OF_THE_FAILURE),
-        (faultless(&TWO_TURNS, OIL, FAILS), 0, REPORT_OF_TWO_TURNS),
-        (
-            faultless(&WORDS, TWO_REQUESTS, HOLDS),
-            3,
-            "refused FORM OIL\n",
-        ),
-        (faultless(&WORDS, OIL, TOO_LARGE), 3, "refused FORM C\n"),
-        (
-            faultless(&["run", "app.oil"], OIL, HOLDS),
-            4,
-            "oschk: usage\n",
-        ),
-        (faultless(&[], OIL, HOLDS), 4, "oschk: usage\n"),
-        (with_faults(1, 0), 5, "oschk: read fault\n"),
-        (with_faults(2, 0), 5, "oschk: read fault\n"),
-        (with_faults(0, 1), 6, ""),
-    ];
-    for (at, (case, number, report)) in cases.iter().enumerate() {
-        let ended = result_of(alloc, case)?;
-        assert_eq!(rt; ended.number, *number, "case {at}");
-        assert_eq!(rt; ended.text.as_bytes(), report.as_bytes(), "case {at}");
+    for (words, oil, c, number, report) in runs() {
+        let ended = result_of(rt.alloc(), &run(words, oil, c))?;
+        assert!(rt; ended.number == *number && ended.text.as_bytes() == report.as_bytes());
+    }
+    Ok(())
+}
+
+#[test]
+fn faults_of_desk_and_output_have_their_numbers(rt: HostRuntime) -> Result<(), Fail> {
+    for (desk_fails_at, out_fails_at, number, report) in [
+        (1, 0, 5, "oschk: read fault\n"),
+        (2, 0, 5, "oschk: read fault\n"),
+        (0, 1, 6, ""),
+    ] {
+        let ended = result_of(rt.alloc(), &with_faults(desk_fails_at, out_fails_at))?;
+        assert!(rt; ended.number == number && ended.text.as_bytes() == report.as_bytes());
+    }
+    Ok(())
+}
+
+// The words of one run in each order that keeps those of the texts.
+const ORDERS: [&str; 60] = [
+    "run app.oil app.c --turns=8 --arrivals=0 --cert=app.cert",
+    "run app.oil app.c --turns=8 --cert=app.cert --arrivals=0",
+    "run app.oil app.c --arrivals=0 --turns=8 --cert=app.cert",
+    "run app.oil app.c --arrivals=0 --cert=app.cert --turns=8",
+    "run app.oil app.c --cert=app.cert --turns=8 --arrivals=0",
+    "run app.oil app.c --cert=app.cert --arrivals=0 --turns=8",
+    "run app.oil --turns=8 app.c --arrivals=0 --cert=app.cert",
+    "run app.oil --turns=8 app.c --cert=app.cert --arrivals=0",
+    "run app.oil --turns=8 --arrivals=0 app.c --cert=app.cert",
+    "run app.oil --turns=8 --arrivals=0 --cert=app.cert app.c",
+    "run app.oil --turns=8 --cert=app.cert app.c --arrivals=0",
+    "run app.oil --turns=8 --cert=app.cert --arrivals=0 app.c",
+    "run app.oil --arrivals=0 app.c --turns=8 --cert=app.cert",
+    "run app.oil --arrivals=0 app.c --cert=app.cert --turns=8",
+    "run app.oil --arrivals=0 --turns=8 app.c --cert=app.cert",
+    "run app.oil --arrivals=0 --turns=8 --cert=app.cert app.c",
+    "run app.oil --arrivals=0 --cert=app.cert app.c --turns=8",
+    "run app.oil --arrivals=0 --cert=app.cert --turns=8 app.c",
+    "run app.oil --cert=app.cert app.c --turns=8 --arrivals=0",
+    "run app.oil --cert=app.cert app.c --arrivals=0 --turns=8",
+    "run app.oil --cert=app.cert --turns=8 app.c --arrivals=0",
+    "run app.oil --cert=app.cert --turns=8 --arrivals=0 app.c",
+    "run app.oil --cert=app.cert --arrivals=0 app.c --turns=8",
+    "run app.oil --cert=app.cert --arrivals=0 --turns=8 app.c",
+    "run --turns=8 app.oil app.c --arrivals=0 --cert=app.cert",
+    "run --turns=8 app.oil app.c --cert=app.cert --arrivals=0",
+    "run --turns=8 app.oil --arrivals=0 app.c --cert=app.cert",
+    "run --turns=8 app.oil --arrivals=0 --cert=app.cert app.c",
+    "run --turns=8 app.oil --cert=app.cert app.c --arrivals=0",
+    "run --turns=8 app.oil --cert=app.cert --arrivals=0 app.c",
+    "run --turns=8 --arrivals=0 app.oil app.c --cert=app.cert",
+    "run --turns=8 --arrivals=0 app.oil --cert=app.cert app.c",
+    "run --turns=8 --arrivals=0 --cert=app.cert app.oil app.c",
+    "run --turns=8 --cert=app.cert app.oil app.c --arrivals=0",
+    "run --turns=8 --cert=app.cert app.oil --arrivals=0 app.c",
+    "run --turns=8 --cert=app.cert --arrivals=0 app.oil app.c",
+    "run --arrivals=0 app.oil app.c --turns=8 --cert=app.cert",
+    "run --arrivals=0 app.oil app.c --cert=app.cert --turns=8",
+    "run --arrivals=0 app.oil --turns=8 app.c --cert=app.cert",
+    "run --arrivals=0 app.oil --turns=8 --cert=app.cert app.c",
+    "run --arrivals=0 app.oil --cert=app.cert app.c --turns=8",
+    "run --arrivals=0 app.oil --cert=app.cert --turns=8 app.c",
+    "run --arrivals=0 --turns=8 app.oil app.c --cert=app.cert",
+    "run --arrivals=0 --turns=8 app.oil --cert=app.cert app.c",
+    "run --arrivals=0 --turns=8 --cert=app.cert app.oil app.c",
+    "run --arrivals=0 --cert=app.cert app.oil app.c --turns=8",
+    "run --arrivals=0 --cert=app.cert app.oil --turns=8 app.c",
+    "run --arrivals=0 --cert=app.cert --turns=8 app.oil app.c",
+    "run --cert=app.cert app.oil app.c --turns=8 --arrivals=0",
+    "run --cert=app.cert app.oil app.c --arrivals=0 --turns=8",
+    "run --cert=app.cert app.oil --turns=8 app.c --arrivals=0",
+    "run --cert=app.cert app.oil --turns=8 --arrivals=0 app.c",
+    "run --cert=app.cert app.oil --arrivals=0 app.c --turns=8",
+    "run --cert=app.cert app.oil --arrivals=0 --turns=8 app.c",
+    "run --cert=app.cert --turns=8 app.oil app.c --arrivals=0",
+    "run --cert=app.cert --turns=8 app.oil --arrivals=0 app.c",
+    "run --cert=app.cert --turns=8 --arrivals=0 app.oil app.c",
+    "run --cert=app.cert --arrivals=0 app.oil app.c --turns=8",
+    "run --cert=app.cert --arrivals=0 app.oil --turns=8 app.c",
+    "run --cert=app.cert --arrivals=0 --turns=8 app.oil app.c",
+];
+
+fn orders() -> &'static [&'static str] {
+    &ORDERS
+}
+
+#[test]
+fn options_stand_before_between_and_after_the_names(rt: HostRuntime) -> Result<(), Fail> {
+    for words in orders() {
+        let ended = result_of(rt.alloc(), &run(words, OIL, HOLDS))?;
+        assert!(rt; ended.number == 0 && ended.text.as_bytes() == REPORT.as_bytes());
+    }
+    Ok(())
+}
+
+// An OIL text, a C text, and the line that refuses them.
+type Refused = (Parts, Parts, &'static str);
+
+const REFUSED: [Refused; 22] = [
+    (&[], &[], "refused OIL END at 1:1\n"),
+    (
+        &["OIL_VERSION = \"2.5\";\nCPU c {\nTASK T { PRIORITY = ; };\n};\n"],
+        HOLDS,
+        "refused OIL TOKEN at 3:21\n",
+    ),
+    (&[HEAD, TASK, "@", TAIL], HOLDS, "refused OIL BYTE at 6:1\n"),
+    (
+        &[HEAD, TASK, "EVENT E { MASK = AUTO; };\n", TAIL],
+        HOLDS,
+        "refused OIL RULE A2 at 6:1\n",
+    ),
+    (
+        &[
+            HEAD,
+            "TASK T { EVENT = E; PRIORITY = 1; SCHEDULE = FULL; ACTIVATION = 1; AUTOSTART = TRUE { APPMODE = M; }; };\n",
+            TAIL,
+        ],
+        HOLDS,
+        "refused OIL RULE A2 at 5:10\n",
+    ),
+    (
+        &[
+            "OIL_VERSION = \"2.5\";\nCPU c {\nOS o { ERRORHOOK = TRUE; };\nAPPMODE M { };\n",
+            TASK,
+            TAIL,
+        ],
+        HOLDS,
+        "refused OIL RULE A7 at 3:20\n",
+    ),
+    (
+        &[HEAD, TASK, "ALARM A { COUNTER = C; };\n", TAIL],
+        HOLDS,
+        "refused OIL RULE A3 at 6:1\n",
+    ),
+    (
+        &[
+            HEAD,
+            "TASK T { PRIORITY = 1; SCHEDULE = FULL; ACTIVATION = 9; AUTOSTART = TRUE { APPMODE = M; }; };\n",
+            TAIL,
+        ],
+        HOLDS,
+        "refused OIL RULE A14 at 5:54\n",
+    ),
+    (
+        &[
+            HEAD,
+            "TASK T { PRIORITY = 1; SCHEDULE = FULL; ACTIVATION = 2; AUTOSTART = TRUE { APPMODE = M; }; };\n",
+            TAIL,
+        ],
+        HOLDS,
+        "refused FORM OIL at 2:5\n",
+    ),
+    (
+        &[HEAD, TASK, LATER, TAIL],
+        HOLDS,
+        "refused FORM OIL at 2:5\n",
+    ),
+    (
+        &[HEAD, TASK, LATER, TAIL],
+        &["uint8_t x = 08;\n"],
+        "refused C NUMBER at 1:13\n",
+    ),
+    (OIL, &["uint8_t x;\n@\n"], "refused C BYTE at 2:1\n"),
+    (OIL, &["#if 1\n"], "refused C DIRECTIVE at 1:1\n"),
+    (OIL, &[], "refused FORM C at 1:1\n"),
+    (
+        OIL,
+        &[
+            "uint8_t x;\nTASK(T) {\n  x = 256;\n",
+            "  assert(x == 1);\n",
+            "  TerminateTask();\n}\n",
+        ],
+        "refused FORM C at 3:7\n",
+    ),
+    (
+        OIL,
+        &[
+            "uint8_t x;\nTASK(T) {\n  x = 1u;\n",
+            "  TerminateTask();\n}\n",
+        ],
+        "refused FORM C at 3:7\n",
+    ),
+    (
+        OIL,
+        &["uint8_t x;\nuint8_t x;\n"],
+        "refused FORM C at 2:9\n",
+    ),
+    (OIL, &["uint8_t T;\n"], "refused FORM C at 1:9\n"),
+    (OIL, &["uint8_t x;\nTASK(U) {\n"], "refused FORM C at 2:6\n"),
+    (
+        OIL,
+        &["uint8_t x;\nTASK(T) {\n  y = 1;\n"],
+        "refused FORM C at 3:3\n",
+    ),
+    (
+        OIL,
+        &["uint8_t x;\nTASK(T) {\n  x = 1;\n"],
+        "refused FORM C at 4:1\n",
+    ),
+    (
+        OIL,
+        &["TASK(T) {\n  TerminateTask();\n}\nuint8_t x;\n"],
+        "refused FORM C at 4:1\n",
+    ),
+];
+
+fn refused() -> &'static [Refused] {
+    &REFUSED
+}
+
+#[test]
+fn texts_are_refused_at_their_first_stage(rt: HostRuntime) -> Result<(), Fail> {
+    for (oil, c, report) in refused() {
+        let ended = result_of(rt.alloc(), &run(RUN, oil, c))?;
+        assert!(rt; ended.number == 3 && ended.text.as_bytes() == report.as_bytes());
+    }
+    Ok(())
+}
+
+// Texts that mean what the first ones do.
+const TAKEN: [(Parts, Parts); 3] = [
+    (
+        OIL,
+        &[
+            "#define ONE 1\nuint8_t x;\nTASK(T) {\n  x = ONE;\n",
+            "  assert(x == 0x1);\n",
+            "  TerminateTask();\n}\n",
+        ],
+    ),
+    (
+        OIL,
+        &[
+            "#include \"os.h\"\nuint8_t x; // one\nTASK(T) { /* two */\n  x = 1;\n",
+            "  assert(x == 1);\n",
+            "  TerminateTask();\n}\n",
+        ],
+    ),
+    (
+        &[
+            "OIL_VERSION = \"2.5\";\nCPU c {\nOS o { ERRORHOOK = FALSE; };\nAPPMODE M { };\n",
+            TASK,
+            TAIL,
+        ],
+        HOLDS,
+    ),
+];
+
+fn taken() -> &'static [(Parts, Parts)] {
+    &TAKEN
+}
+
+#[test]
+fn defined_names_comments_and_hooks_set_to_false_are_taken(rt: HostRuntime) -> Result<(), Fail> {
+    for (oil, c) in taken() {
+        let ended = result_of(rt.alloc(), &run(RUN, oil, c))?;
+        assert!(rt; ended.number == 0 && ended.text.as_bytes() == REPORT.as_bytes());
+    }
+    Ok(())
+}
+
+// A certificate, the number that the program ends with, and what it writes.
+type Checked = (Parts, u8, &'static str);
+
+const CHECKED: [Checked; 12] = [
+    (
+        &[
+            TITLE,
+            BUDGET,
+            SIZES,
+            FIRST,
+            SECOND,
+            GOAL,
+            "0 1 2 3 0\nverdict holds\nend\n",
+        ],
+        0,
+        "oschk check\nlines 1\ngood holds\n",
+    ),
+    (
+        &[
+            TITLE,
+            BUDGET,
+            SIZES,
+            FIRST,
+            SECOND,
+            GOAL,
+            "0 1 3 0\nverdict holds\nend\n",
+        ],
+        8,
+        "oschk check\nlines 1\nbad line 1\n",
+    ),
+    (
+        &[
+            TITLE,
+            BUDGET,
+            SIZES,
+            FIRST,
+            SECOND,
+            GOAL,
+            "0 0\nverdict holds\nend\n",
+        ],
+        8,
+        "oschk check\nlines 1\nbad line 1\n",
+    ),
+    (
+        &[
+            TITLE,
+            BUDGET,
+            SIZES,
+            FIRST,
+            SECOND,
+            GOAL,
+            "0 2 1 3 0\nverdict holds\nend\n",
+        ],
+        8,
+        "oschk check\nlines 1\nbad line 1\n",
+    ),
+    (
+        &[
+            TITLE,
+            BUDGET,
+            SIZES,
+            FIRST,
+            SECOND,
+            GOAL,
+            "0 1 2 3 0\nverdict undecided\nend\n",
+        ],
+        8,
+        "oschk check\nlines 1\nbad verdict\n",
+    ),
+    (
+        &[
+            TITLE,
+            BUDGET,
+            SIZES,
+            FIRST,
+            SECOND,
+            GOAL,
+            "0 1 2 3 0\nverdict fails\nmodel 1 2 0\nend\n",
+        ],
+        8,
+        "oschk check\nlines 1\nbad verdict\n",
+    ),
+    (
+        &[
+            TITLE,
+            BUDGET,
+            SIZES,
+            FIRST,
+            SECOND,
+            GOAL,
+            "0 1 2 3 0\nverdict holds\n",
+        ],
+        3,
+        "refused CERT END at 17:1\n",
+    ),
+    (
+        &[
+            TITLE,
+            BUDGET,
+            SIZES,
+            FIRST,
+            SECOND,
+            GOAL,
+            "0 1 2 9 0\nverdict holds\nend\n",
+        ],
+        3,
+        "refused CERT TOKEN at 15:7\n",
+    ),
+    (
+        &[
+            "Oschk certificate 1\nbounds 1 0\n",
+            BUDGET,
+            SIZES,
+            FIRST,
+            SECOND,
+            GOAL,
+            "0 1 2 3 0\nverdict holds\nend\n",
+        ],
+        3,
+        "refused CERT TOKEN at 1:1\n",
+    ),
+    (
+        &[
+            TITLE,
+            BUDGET,
+            SIZES,
+            "3 0\n",
+            SECOND,
+            GOAL,
+            "0 1 2 3 0\nverdict holds\nend\n",
+        ],
+        3,
+        "refused CERT TOKEN at 6:1\n",
+    ),
+    (
+        &[
+            TITLE,
+            BUDGET,
+            SIZES,
+            FIRST,
+            "2 -1 0\n",
+            GOAL,
+            "0 1 2 3 0\nverdict holds\nend\n",
+        ],
+        3,
+        "refused CERT TOKEN at 7:3\n",
+    ),
+    (
+        &[
+            TITLE,
+            "\0",
+            BUDGET,
+            SIZES,
+            FIRST,
+            SECOND,
+            GOAL,
+            "0 1 2 3 0\nverdict holds\nend\n",
+        ],
+        3,
+        "refused CERT BYTE at 3:1\n",
+    ),
+];
+
+fn checked() -> &'static [Checked] {
+    &CHECKED
+}
+
+#[test]
+fn certificates_are_checked(rt: HostRuntime) -> Result<(), Fail> {
+    for (cert, number, report) in checked() {
+        let ended = result_of(rt.alloc(), &check(cert))?;
+        assert!(rt; ended.number == *number && ended.text.as_bytes() == report.as_bytes());
     }
     Ok(())
 }
@@ -172,10 +659,10 @@ fn blanks(alloc: Global, count: u32) -> Result<Text, AllocError> {
 }
 
 fn ended_with_blanks(alloc: Global, count: u32) -> Result<Ended, AllocError> {
-    let case = faultless(&WORDS, OIL, HOLDS);
+    let case = run(RUN, OIL, HOLDS);
     let words = words_of(alloc, case.words)?;
     let mut desk = desk_of(alloc, &case)?;
-    desk.put(&text(alloc, "app.oil")?, &blanks(alloc, count)?)?;
+    desk.put(&text(alloc, &["app.oil"])?, &blanks(alloc, count)?)?;
     let out = out_of(alloc, &case)?;
     called(alloc, &words, desk, out)
 }
@@ -184,7 +671,7 @@ fn ended_with_blanks(alloc: Global, count: u32) -> Result<Ended, AllocError> {
 fn a_text_may_have_262144_bytes(rt: HostRuntime) -> Result<(), Fail> {
     let alloc = rt.alloc();
     for (count, report) in [
-        (262_144, "refused FORM OIL\n"),
+        (262_144, "refused OIL END at 1:262145\n"),
         (262_145, "refused LENGTH OIL of 262144\n"),
     ] {
         let ended = ended_with_blanks(alloc, count)?;

@@ -1,13 +1,7 @@
-pub mod Pieces
-pub mod Spelling
-pub mod OilWords
 pub mod Lines
-pub mod FirstFits
-pub mod CFormNames
-pub mod CFormFronts
-pub mod CFormRead
-pub mod FirstOrder
 pub mod OnlyRun
 pub mod Runs
+pub mod Stops
+pub mod Told
 pub mod Replies
 pub mod Verdicts

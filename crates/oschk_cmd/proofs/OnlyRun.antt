@@ -1,5 +1,5 @@
 -- Where no input is taken and no routine arrives there is only one run: every permitted schedule is a prefix of it.
-use Rattle.std.proofs.Common.{◌≡◌, ℕ, zero, suc, ◌≤◌, ◌<◌, Bool, true, false, if◌then◌else◌, List, [], ◌∷◌, ◌++◌, length, Option, Some, None, refl, sym, ap, subst, ◌∙◌, slice_get, arith}
+use Rattle.std.proofs.Common.{◌≡◌, ◌≢◌, ℕ, zero, suc, ◌≤◌, ◌<◌, Bool, true, false, if◌then◌else◌, List, [], ◌∷◌, ◌++◌, length, Option, Some, None, refl, sym, ap, subst, ◌∙◌, slice_get, arith}
 use Rattle.std.specs.Prelude.{option_map}
 use Rattle.app_model.specs.declared.app.App.{App}
 use Rattle.chk_base.specs.declared.word.Width.{Width}
@@ -8,7 +8,6 @@ use Rattle.chk_base.specs.Term.{Term}
 use Rattle.chk_base.specs.Widths.{PlainWord}
 use Rattle.osek_machine.specs.Kept.{Kept, state_of}
 use Rattle.osek_machine.specs.Steps.{HasRun, step_of}
-use Rattle.osek_machine.specs.Within.{input_cell}
 use Rattle.step_ir.specs.declared.code.Code.{Code}
 use Rattle.step_ir.specs.declared.event.Choice.{Choice}
 use Rattle.step_ir.specs.declared.event.Choice.TheVariants.{Go, GoWith, Arrive}
@@ -24,7 +23,8 @@ use Rattle.step_ir.specs.SchedulerState.{State, actor, scene}
 use Rattle.step_ir.specs.SchedulerStep.{act, go, step, tell}
 use Rattle.step_ir.specs.Services.{Scene}
 use Rattle.step_ir.specs.Setting.{Setting, setting_of}
-use Rattle.oschk_cmd.specs.OneRun.{NoneFails, TakesNoInput, steps}
+use Rattle.first_form.specs.FirstCode.{TakesNoInput}
+use Rattle.oschk_cmd.specs.OneRun.{NoneFails, steps}
 
 -- ---- who takes no input takes no word
 
@@ -41,12 +41,12 @@ asserted : (b : Bool) (does fails : Want ℕ Bits) → WantsNoWord does → Want
 asserted true does fails first second = first
 asserted false does fails first second = second
 
-act_no_word : (width : ℕ → Width) (action : PlainAction) (nexts : List (Term × ℕ)) (bits : Bits) → input_cell action ≡ None → WantsNoWord (PointStep.act width action nexts bits)
+act_no_word : (width : ℕ → Width) (action : PlainAction) (nexts : List (Term × ℕ)) (bits : Bits) → ((cell : ℕ) → action ≢ Input cell) → WantsNoWord (PointStep.act width action nexts bits)
 act_no_word width (Read t into) nexts bits is = tt
 act_no_word width (Write t term) nexts bits is = tt
 act_no_word width (Local cell term) nexts bits is = tt
 act_no_word width (Branch term) nexts bits is = tt
-act_no_word width (Input cell) nexts bits is = absurd cc
+act_no_word width (Input cell) nexts bits is = absurd (is cell refl)
 act_no_word width (Call f sets) nexts bits is = tt
 act_no_word width (Return None) nexts bits is = tt
 act_no_word width (Return (Some s)) nexts bits is = tt
@@ -54,29 +54,29 @@ act_no_word width (Invoke service) nexts bits is = tt
 act_no_word width (Assert term) nexts bits is = asserted (truth (val width bits term)) _ _ tt tt
 act_no_word width End nexts bits is = tt
 
-fails_no_word : (width : ℕ → Width) (action : PlainAction) (failure : Failure) → input_cell action ≡ None → WantsNoWord (PointStep.fails width action failure)
+fails_no_word : (width : ℕ → Width) (action : PlainAction) (failure : Failure) → ((cell : ℕ) → action ≢ Input cell) → WantsNoWord (PointStep.fails width action failure)
 fails_no_word width (Read t into) failure is = tt
 fails_no_word width (Write t term) failure is = tt
 fails_no_word width (Local cell term) failure is = tt
 fails_no_word width (Branch term) failure is = tt
-fails_no_word width (Input cell) failure is = absurd cc
+fails_no_word width (Input cell) failure is = absurd (is cell refl)
 fails_no_word width (Call f sets) failure is = tt
 fails_no_word width (Return set) failure is = tt
 fails_no_word width (Invoke service) failure is = tt
 fails_no_word width (Assert term) failure is = tt
 fails_no_word width End failure is = tt
 
-unless_no_word : (width : ℕ → Width) (trap : Option ℕ) (p : PlainPoint) (bits : Bits) → input_cell p.action ≡ None → WantsNoWord (PointStep.unless width trap p bits)
+unless_no_word : (width : ℕ → Width) (trap : Option ℕ) (p : PlainPoint) (bits : Bits) → ((cell : ℕ) → p.action ≢ Input cell) → WantsNoWord (PointStep.unless width trap p bits)
 unless_no_word width None p bits is = act_no_word width p.action p.nexts bits is
 unless_no_word width (Some n) p bits is = fails_no_word width p.action _ is
 
-point_no_word : (width : ℕ → Width) (o : Option PlainPoint) (bits : Bits) → ((p : PlainPoint) → o ≡ Some p → input_cell p.action ≡ None) → WantsNoWord (PointStep.step width o bits)
+point_no_word : (width : ℕ → Width) (o : Option PlainPoint) (bits : Bits) → ((p : PlainPoint) → o ≡ Some p → (cell : ℕ) → p.action ≢ Input cell) → WantsNoWord (PointStep.step width o bits)
 point_no_word width None bits is = tt
 point_no_word width (Some p) bits is = unless_no_word width (first (val width bits) p.traps) p bits (is p refl)
 
 -- the entities of a code without inputs take no word
 no_words : (code : Code) → TakesNoInput code → WantNoWords (behaviour_of code)
-no_words code none e at bits = point_no_word (width_in code) (slice_get (points_in code e) at) bits (none e at)
+no_words code none e at bits = point_no_word (width_in code) (slice_get (points_in code e) at) bits (λ p is cell. none e at cell p is)
 
 deed_no_word : {S G : Type 0} (app : Setting) (c : Scene) (want : Want S G) (w : PlainWord) → WantsNoWord want → deed_of app c want (GoWith w) ≡ None
 deed_no_word app c (Does action after) w none = refl

@@ -2,23 +2,21 @@
 use Rattle.std.specs.Prelude.{◌≡◌, ℕ, true, List}
 use Rattle.app_model.specs.declared.app.App.{App}
 use Rattle.chk_base.specs.Desk.{DeskState}
+use Rattle.command_words.specs.Asked.{IsRun}
+use Rattle.command_words.specs.declared.asked.RunWords.{RunWords}
 use Rattle.step_ir.specs.declared.code.Code.{Code}
 use Rattle.step_ir.specs.declared.event.Event.{Event}
 use Rattle.step_ir.specs.PermittedSchedule.{IsSchedule, fails}
 use Rattle.step_ir.specs.Points.{start_bits}
 use Rattle.step_ir.specs.PointStep.{behaviour_of}
 use Rattle.step_ir.specs.Setting.{setting_of}
-use Rattle.oschk_cmd.specs.Answers.{HasFile, IsFirstC, IsFirstOil}
-use Rattle.oschk_cmd.specs.FirstC.{PlainC}
-use Rattle.oschk_cmd.specs.FirstCode.{app_of, IsFirstCode}
-use Rattle.oschk_cmd.specs.FirstOil.{PlainOil}
-use Rattle.oschk_cmd.specs.FirstPlaces.{places_of}
 use Rattle.oschk_cmd.specs.OneRun.{NoneFails}
-use Rattle.oschk_cmd.specs.RunWords.{PlainRun, IsRun}
+use Rattle.oschk_cmd.specs.Prepared.{IsPrepared}
+use Rattle.oschk_cmd.specs.Runs.{HasFile}
 
--- the words ask for a run of at most k steps over two texts, which have this application and this code
+-- the words ask for a run of at most k steps over two texts, which mean this application and this code
 pub record AsksFor (words : List (List ℕ)) (desk : DeskState) (app : App) (code : Code) (k : ℕ) : Type 0 where
-  pub run : PlainRun
+  pub run : RunWords
   pub is_run : IsRun words run
   pub bound : k ≡ run.turns
   -- the desk has these texts, if it tells its files
@@ -26,14 +24,8 @@ pub record AsksFor (words : List (List ℕ)) (desk : DeskState) (app : App) (cod
   pub c : List ℕ
   pub has_oil : HasFile desk run.oil oil
   pub has_c : HasFile desk run.c c
-  -- the texts are of the first forms
-  pub oil_form : PlainOil
-  pub c_form : PlainC
-  pub is_oil : IsFirstOil oil oil_form
-  pub is_c : IsFirstC c oil_form.task c_form
-  -- and so is what they mean
-  pub is_app : app ≡ app_of oil_form
-  pub is_code : IsFirstCode c_form (places_of c c_form) code
+  -- what the texts mean in the mode of the words
+  pub prepared : IsPrepared oil c run.mode app code
 
 -- no permitted schedule of at most k events fails
 pub record Holds (words : List (List ℕ)) (desk : DeskState) : Type 0 where

@@ -1,8 +1,7 @@
 -- The one run of a machine where no routine arrives and no input is taken.
-use Rattle.std.specs.Prelude.{◌≡◌, ℕ, false, List, [], ◌∷◌, Option, Some, None, is_some, replicate, slice_get}
+use Rattle.std.specs.Prelude.{◌≡◌, ℕ, false, List, [], ◌∷◌, Option, Some, None, is_some, replicate}
 use Rattle.app_model.specs.declared.app.App.{App}
 use Rattle.chk_base.specs.declared.place.Place.{Place}
-use Rattle.osek_machine.specs.Within.{input_cell}
 use Rattle.step_ir.specs.declared.code.Code.{Code}
 use Rattle.step_ir.specs.declared.event.Choice.{Choice}
 use Rattle.step_ir.specs.declared.event.Choice.TheVariants.{Go}
@@ -11,7 +10,7 @@ use Rattle.step_ir.specs.declared.event.EventAction.{EventAction}
 use Rattle.step_ir.specs.declared.event.EventAction.TheVariants.{Fail}
 use Rattle.step_ir.specs.declared.event.Failure.{Failure}
 use Rattle.step_ir.specs.PermittedSchedule.{IsSchedule, fails}
-use Rattle.step_ir.specs.Points.{PlainPoint, points_in, start_bits}
+use Rattle.step_ir.specs.Points.{start_bits}
 use Rattle.step_ir.specs.PointStep.{behaviour_of}
 use Rattle.step_ir.specs.Setting.{setting_of}
 
@@ -34,10 +33,6 @@ abbrev pub last_failure : List Event → Option (Failure × Place)
 last_failure [] = None
 last_failure (e ∷ []) = failure_at e (failure_of e.action)
 last_failure (e ∷ f ∷ es) = last_failure (f ∷ es)
-
--- no point of a code takes an input
-abbrev pub TakesNoInput : Code → Type 0
-TakesNoInput code = (e at : ℕ) (p : PlainPoint) → slice_get (points_in code e) at ≡ Some p → input_cell p.action ≡ None
 
 -- no permitted schedule without arrivals of at most k events fails
 abbrev pub NoneFails : App → Code → ℕ → Type 0

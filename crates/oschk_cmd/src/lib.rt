@@ -1,16 +1,12 @@
 // The command `oschk` over a desk and a sink.
 #![tactic(auto)]
 
-mod c_form;
+mod check;
 pub mod command;
-mod first_code;
-mod number;
-mod oil_form;
 mod one_run;
-mod places;
+mod prepare;
+mod refusal;
 mod reply;
 mod report;
-mod reserved;
+mod run;
 pub mod status;
-mod token;
-mod words;

@@ -2,7 +2,8 @@
 ghost use Rattle.std.specs.Prelude.{◌≡◌, ◌≤◌, IfOk};
 ghost use Rattle.app_model.specs.InOrder.{IsInOrder};
 ghost use Rattle.step_ir.specs.Fits.{Fits};
-ghost use Rattle.oschk_cmd.specs.OneRun.{IsRunOf, TakesNoInput, failure_of, failure_at};
+ghost use Rattle.oschk_cmd.specs.OneRun.{IsRunOf, failure_of, failure_at};
+ghost use Rattle.first_form.specs.FirstCode.{TakesNoInput};
 
 use app_model::app::App;
 use chk_base::place::Place;

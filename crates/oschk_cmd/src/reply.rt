@@ -1,60 +1,66 @@
 // What a command replies, before anything is written.
-ghost use Rattle.std.specs.Prelude.{◌≡◌, ◌≤◌, ◌<◌, ◌^◌, IfOk, length};
-ghost use Rattle.oschk_cmd.specs.Answers.{IsReplyTo, IsReply, HasFile, reply_status, reply_text, is_fault};
-ghost use Rattle.oschk_cmd.specs.RunWords.{plain_run};
+ghost use Rattle.std.specs.Prelude.{◌≡◌};
+ghost use Rattle.oschk_cmd.specs.Replies.{ending_status, is_fault, reply_status, reply_text};
 
-use crate::c_form::c_form;
-use crate::first_code::{app_of, code_of};
-use crate::oil_form::oil_form;
-use crate::one_run::one_run;
-use crate::places::places_of;
-use crate::report::put_run;
-use crate::token::{Language, tokens_of};
+use crate::status::Status;
 use chk_base::text::Text;
-use std::alloc::{AllocError, Global};
 
-/// A fault, a refusal, or the report of a run, which may have failed.
+/// How a command ends that has something to tell.
+#[derive(Clone, Copy, PartialEq, Eq, Debug)]
+pub enum Ending {
+    Good,
+    Fails,
+    Refused,
+    NotPermitted,
+}
+
+/// A fault, or a text with the ending.
 #[derive(Drop)]
 pub enum Reply {
     Usage,
     ReadFault,
     OutOfMemory,
-    LongOil,
-    LongC,
-    FormOil,
-    FormC,
-    Ran { text: Text, failed: bool },
+    Told { text: Text, ending: Ending },
 }
 
-/// The most bytes that a text may have.
-pub const LIMIT: u64 = 262_144;
-
-/// What the two texts lead to, within so many steps.
-pub fn reply_to(alloc: Global, oil: &Text, c: &Text, turns: u16) -> Result<Reply, AllocError>
-    requires oil { length oil.now ≤ 262144 }
-    requires c { length c.now ≤ 262144 }
-    ensures { IfOk result (IsReplyTo oil.now c.now turns) }
+fn ending_status(ending: Ending) -> Status
+    ensures { result ≡ ending_status ending }
 {
-    let Some(oil_tokens) = tokens_of(alloc, Language::Oil, oil.as_bytes())? else {
-        return Ok(Reply::FormOil);
-    };
-    let Some(oil_form) = oil_form(&oil_tokens) else {
-        return Ok(Reply::FormOil);
-    };
-    let Some(c_tokens) = tokens_of(alloc, Language::C, c.as_bytes())? else {
-        return Ok(Reply::FormC);
-    };
-    let Some(c_form) = c_form(alloc, &c_tokens, oil_form.task)? else {
-        return Ok(Reply::FormC);
-    };
-    let app = app_of(alloc, &oil_form)?;
-    let places = places_of(alloc, c, &c_form)?;
-    let code = code_of(alloc, &c_form, &places)?;
-    let run = one_run(alloc, &app, &code, turns)?;
-    let mut text = Text::new(alloc);
-    put_run(&mut text, &app, &code, turns, &run.events, run.found)?;
-    Ok(Reply::Ran {
-        text,
-        failed: run.found.is_some(),
-    })
+    match ending {
+        Ending::Good => Status::Good,
+        Ending::Fails => Status::Fails,
+        Ending::Refused => Status::Refused,
+        Ending::NotPermitted => Status::NotPermitted,
+    }
+}
+
+/// The text of a reply.
+pub fn text_of(reply: &Reply) -> &[u8]
+    ensures { result.now ≡ reply_text reply.now }
+{
+    match reply {
+        Reply::Usage => b"oschk: usage\n",
+        Reply::ReadFault => b"oschk: read fault\n",
+        Reply::OutOfMemory => b"oschk: out of memory\n",
+        Reply::Told { text, ending: _ } => text.as_bytes(),
+    }
+}
+
+/// How the command ends where that is written.
+pub fn status_of(reply: &Reply) -> Status
+    ensures { result ≡ reply_status reply.now }
+{
+    match reply {
+        Reply::Usage => Status::Usage,
+        Reply::ReadFault => Status::ReadFault,
+        Reply::OutOfMemory => Status::Memory,
+        Reply::Told { text: _, ending } => ending_status(*ending),
+    }
+}
+
+/// The reply keeps its status where its line can't be written.
+pub fn is_fault(reply: &Reply) -> bool
+    ensures { result ≡ is_fault reply.now }
+{
+    matches!(reply, Reply::Usage | Reply::ReadFault | Reply::OutOfMemory)
 }

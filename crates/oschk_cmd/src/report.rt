@@ -15,7 +15,7 @@ use std::alloc::AllocError;
 use step_ir::code::{CellName, Code, EntityCode};
 use step_ir::event::{Event, EventAction, Events, Failure, Next, Service};
 
-fn put_number(out: &mut Text, number: u64) -> Result<(), AllocError>
+pub fn put_number(out: &mut Text, number: u64) -> Result<(), AllocError>
     ensures { OnOk result (out.new ≡ out.old ++ decimal number) }
 {
     let mut buffer = Buffer::new();
@@ -277,7 +277,7 @@ fn put_schedule(out: &mut Text, steps: usize) -> Result<(), AllocError>
     Ok(())
 }
 
-fn put_place(out: &mut Text, place: Place) -> Result<(), AllocError>
+pub fn put_place(out: &mut Text, place: Place) -> Result<(), AllocError>
     ensures { OnOk result (out.new ≡ out.old ++ place_text place) }
 {
     put_number(out, place.line as u64)?;

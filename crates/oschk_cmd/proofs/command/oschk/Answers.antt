@@ -1,8 +1,8 @@
 use Rattle.std.proofs.Common.{ℕ, List, sym, subst, ◌∙◌, ap}
 use Rattle.chk_base.specs.Sink.{WritesAll}
-use Rattle.oschk_cmd.specs.Answers.{status_after}
+use Rattle.oschk_cmd.specs.Replies.{status_after}
 use Rattle.oschk_cmd.proofs.Replies.{fault_status, write_status}
-use Rattle.oschk_cmd.proofs.Verdicts.{fails_of, holds_of}
+use Rattle.oschk_cmd.proofs.Verdicts.{bad_end, failed_end, good_end}
 use Rattle.oschk_cmd.proofs.command.oschk.Goals as goal
 
 pub returns-in-Ok-clause-answered : goal.returns-in-Ok-clause-answered
@@ -52,20 +52,20 @@ returns-clause-answered g c =
           ∙ ap (status_after c.reply-reply.result) (sym c.in-Err.is);
     }
 
-pub returns-in-Ok-clause-holds : goal.returns-in-Ok-clause-holds
-returns-in-Ok-clause-holds g c = λ good. holds_of _ _ _ _ _ _ (returns-in-Ok-clause-answered g c) good
+pub returns-in-Ok-clause-good : goal.returns-in-Ok-clause-good
+returns-in-Ok-clause-good g c = good_end _ _ _ _ _ _ (returns-in-Ok-clause-answered g c)
 
 pub returns-in-Ok-clause-fails : goal.returns-in-Ok-clause-fails
-returns-in-Ok-clause-fails g c = λ failed. fails_of _ _ _ _ _ _ (returns-in-Ok-clause-answered g c) failed
+returns-in-Ok-clause-fails g c = failed_end _ _ _ _ _ _ (returns-in-Ok-clause-answered g c)
 
-pub returns-then-is_fault-clause-holds : goal.returns-then-is_fault-clause-holds
-returns-then-is_fault-clause-holds g c = λ good. holds_of _ _ _ _ _ _ (returns-then-is_fault-clause-answered g c) good
+pub returns-in-Ok-clause-not_permitted : goal.returns-in-Ok-clause-not_permitted
+returns-in-Ok-clause-not_permitted g c = bad_end _ _ _ _ _ _ (returns-in-Ok-clause-answered g c)
+
+pub returns-then-is_fault-clause-good : goal.returns-then-is_fault-clause-good
+returns-then-is_fault-clause-good g c = good_end _ _ _ _ _ _ (returns-then-is_fault-clause-answered g c)
 
 pub returns-then-is_fault-clause-fails : goal.returns-then-is_fault-clause-fails
-returns-then-is_fault-clause-fails g c = λ failed. fails_of _ _ _ _ _ _ (returns-then-is_fault-clause-answered g c) failed
+returns-then-is_fault-clause-fails g c = failed_end _ _ _ _ _ _ (returns-then-is_fault-clause-answered g c)
 
-pub returns-clause-holds : goal.returns-clause-holds
-returns-clause-holds g c = λ good. holds_of _ _ _ _ _ _ (returns-clause-answered g c) good
-
-pub returns-clause-fails : goal.returns-clause-fails
-returns-clause-fails g c = λ failed. fails_of _ _ _ _ _ _ (returns-clause-answered g c) failed
+pub returns-then-is_fault-clause-not_permitted : goal.returns-then-is_fault-clause-not_permitted
+returns-then-is_fault-clause-not_permitted g c = bad_end _ _ _ _ _ _ (returns-then-is_fault-clause-answered g c)
