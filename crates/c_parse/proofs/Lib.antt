@@ -1,0 +1,10 @@
+pub mod Opened
+pub mod Meant
+pub mod Starts
+pub mod Choices
+pub mod Fors
+pub mod Lows
+pub mod Elses
+pub mod Tails
+pub mod Depths
+pub mod Whole

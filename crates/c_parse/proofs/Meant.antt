@@ -1,0 +1,45 @@
+-- What the regrouped tree of an expression means.
+use Rattle.std.proofs.Common.{◌≡◌, Bool, ◌∷◌, map, refl, ap}
+use Rattle.grammar.specs.Grammar.{Tree, Pair, Left, Right, Node, items}
+use Rattle.c_lex.specs.declared.token.Token.{Token}
+use Rattle.c_grammar.specs.Factored.{TheExternal}
+use Rattle.c_grammar.specs.Trees.{written_change, written_variable, written_variables, written_tail, written_else, as_written}
+use Rattle.c_expression.specs.declared.expression.TypeName.{TypeName}
+use Rattle.c_parse.specs.declared.unit.External.TheVariants as external
+use Rattle.c_expression.specs.Lexemes.{name_of, type_of, has_const}
+use Rattle.c_parse.specs.Statements.{simple_of, change_of, statement_of, statements_of}
+use Rattle.c_parse.specs.Units.{variable_of, initial_of, more_of, variables_of, after_name, external_of, defined_of}
+
+pub change_meant : (n c : Tree Token) → simple_of (Node (written_change n c)) ≡ change_of (name_of n) c
+change_meant n (Left x) = refl
+change_meant n (Right (Left x)) = refl
+change_meant n (Right (Right (Left x))) = refl
+change_meant n (Right (Right (Right (Left x)))) = refl
+change_meant n (Right (Right (Right (Right (Left x))))) = refl
+change_meant n (Right (Right (Right (Right (Right x))))) = refl
+change_meant n _ = refl
+
+pub variable_meant : (n i : Tree Token) → variable_of (Node (written_variable n i)) ≡ initial_of (name_of n) i
+variable_meant n (Left x) = refl
+variable_meant n (Right (Left x)) = refl
+variable_meant n (Right (Right x)) = refl
+variable_meant n _ = refl
+
+pub tail_meant : (m z : Tree Token) → more_of (written_tail m z) ≡ more_of (written_else m)
+tail_meant (Left (Pair m f)) z = refl
+tail_meant _ z = refl
+
+variables_meant : (c : Bool) (t : TypeName) (n v : Tree Token) → variables_of c t (written_variables n v) ≡ after_name c t (name_of n) v
+variables_meant c t n (Pair i (Pair vs s)) = rw (variable_meant n i) refl
+variables_meant c t n (Pair i _) = refl
+variables_meant c t n _ = refl
+
+pub defined_meant : (q d : Tree Token) → external_of (as_written TheExternal (Right (Right (Pair q d)))) ≡ defined_of (has_const q) d
+defined_meant q (Left (Pair v (Pair n f))) = refl
+defined_meant q (Right (Pair t (Pair n (Left f)))) = refl
+defined_meant q (Right (Pair t (Pair n (Right v)))) = ap (λ xs. external.Variables xs) (variables_meant (has_const q) (type_of t) n v)
+defined_meant q _ = refl
+
+pub statements_mapped : (m : Tree Token) → statements_of m ≡ map statement_of (items m)
+statements_mapped (Pair x y) = ap (λ xs. statement_of x ∷ xs) (statements_mapped y)
+statements_mapped _ = refl

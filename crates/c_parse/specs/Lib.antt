@@ -1,0 +1,5 @@
+-- What the trees of the grammar mean.
+pub mod Statements
+pub mod Units
+pub mod Depth
+pub mod Parsed
