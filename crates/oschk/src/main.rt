@@ -5,6 +5,8 @@
 mod solver_tests;
 #[cfg(test)]
 mod tests;
+#[cfg(test)]
+mod turn_tests;
 
 use chk_base::file_desk::FileDesk;
 use chk_base::out_sink::OutSink;

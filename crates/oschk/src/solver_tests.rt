@@ -42,7 +42,7 @@ const PIGEONS: [&[u64]; 22] = [
 ];
 
 // Adds a clause of these codes, where they rise by variable within range.
-fn add(alloc: Global, formula: &mut Formula, codes: &[u64]) -> Result<(), AllocError>
+pub(crate) fn add(alloc: Global, formula: &mut Formula, codes: &[u64]) -> Result<(), AllocError>
     ensures { formula.new.variables ≡ formula.old.variables }
 {
     let mut clause = Clause::new(alloc);

@@ -1,5 +1,5 @@
 -- Turns that are unrolled are a description.
-use Rattle.std.proofs.Common.{◌≡◌, ◌≢◌, ℕ, suc, zero, ◌+◌, ◌-◌, ◌*◌, ◌<◌, ◌≤◌, Bool, true, false, not, ◌&&◌, ◌||◌, List, [], ◌∷◌, ◌++◌, refl, sym, ◌∙◌, ap, subst, inl, inr, ◌⊎◌, arith, if◌then◌else◌, length, Option, Some, None, ◌==◌, take, get_or}
+use Rattle.std.proofs.Common.{◌≡◌, ◌≢◌, ℕ, suc, zero, ◌+◌, ◌-◌, ◌*◌, ◌<◌, ◌≤◌, Bool, true, false, not, ◌&&◌, ◌||◌, List, [], ◌∷◌, ◌++◌, refl, sym, ◌∙◌, ap, subst, inl, inr, ◌⊎◌, arith, if◌then◌else◌, length, Option, Some, None, ◌==◌, nat_lt, take, get_or}
 use Rattle.std.proofs.lemmas.Bool.Decides.{nat_tests}
 use Rattle.clause_form.specs.declared.lit.Lit.{Lit}
 use Rattle.clause_form.specs.ClauseTruth.{Values, is_lit_true, is_clause_true}
@@ -10,7 +10,8 @@ use Rattle.guard_prog.specs.GuardedRun.{Program, State, run, start_of, IsRun, Is
 use Rattle.turn_law.specs.Padded.{Phase, step, ended, path, path_on, beginning, trimmed}
 use Rattle.turn_law.specs.Symbol.{Symbol, Row, row_true, first_true, trues, chosen, choices, AreRowsOf, Takes, Follows, OneReads, Reached, Unrolls}
 use Rattle.turn_law.specs.Description.{PlainEncoding, row_of, turns_read, read, HasOneModel, AreRowsWithin, Describes}
-use Rattle.turn_law.specs.Unrolled.{AreLabelled, labels_of, words_of, depths_of, failed_in, encoded, IsGoal, IsStart}
+use Rattle.turn_law.specs.Unrolled.{AreLabelled, labels_of, words_of, depths_of, failures_of, failed_in, encoded, IsGoal, IsStart}
+use Rattle.turn_law.proofs.Failing.{fails_at, goal_fails, goal_inside, goal_some, length-failures}
 use Rattle.turn_law.proofs.Induction.{follows_path, length-choices}
 use Rattle.turn_law.proofs.Padding.{padded, length-padded, Pads, Acts, step_cases, is_padded, padable}
 
@@ -98,23 +99,24 @@ reads_run p s symbol rows start goal u v q =
     ap (λ cs. run p (trimmed cs) (start_of p)) (read_choices v rows) ∙ (is_padded p (choices v rows) (beginning p) q.phase (follows_path p v rows (beginning p) q.phase q.follows)).runs
 
 -- the description
-pub describes : (p : Program) (s : PlainFormula) (symbol : Symbol) (rows : List Row) (start goal : List Lit) → AreLabelled p → Unrolls p s symbol rows → IsStart p s start → IsGoal s rows goal → Describes (encoded s goal start rows) p (length rows)
-describes p s symbol rows start goal a u st f = record {
+pub describes : (p : Program) (s : PlainFormula) (symbol : Symbol) (rows : List Row) (start goal : List Lit) → AreLabelled p → Unrolls p s symbol rows → 0 < length rows → IsStart p s start → IsGoal rows goal → Describes (encoded s goal start rows) p (length rows)
+describes p s symbol rows start goal a u n st f = record {
   turns = length-labels rows;
   once = λ v m t h. let q = u.reached v m in once_of p v (beginning p) rows q.phase q.follows t h;
   padding = λ v m t h e. let q = u.reached v m in padding_of p v (beginning p) rows q.phase q.follows t h e;
   runs = λ v m. let q = u.reached v m in record { state = q.phase.state; is = record { is = reads_run p s symbol rows start goal u v q } };
   each = λ xs h r. one xs h r;
   depth = λ v m t h end r d. deep v m t h end r.is d;
-  some = f.some;
+  some = goal_some rows goal n f;
   rises = f.rises;
+  failures = record { failures = failures_of rows; are = record { count = length-failures rows; each = λ v m t h end r. fails v m t h end r.is }; same = f.same };
   goal = λ v m end r.
       let q = u.reached v m in
       let e = reads_run p s symbol rows start goal u v q in
       let g : Some end ≡ Some q.phase.state = sym r.is ∙ e in
       let i : end ≡ q.phase.state = cc in
-      f.fails v m ∙ failure_of p v (beginning p) rows q.phase q.follows ∙ sym (ap (λ x. x.is_failed) i);
-  goal_within = f.within;
+      goal_fails v rows goal f ∙ failure_of p v (beginning p) rows q.phase q.follows ∙ sym (ap (λ x. x.is_failed) i);
+  goal_within = goal_inside s.variables rows goal u.inside f;
   depths_within = (st.within, depths_inside s.variables rows u.inside);
   alternatives_within = labels_inside s.variables rows u.inside;
   inputs_within = words_inside s.variables rows u.inside;
@@ -135,6 +137,12 @@ describes p s symbol rows start goal a u st f = record {
               let n : length (choices w rows) ≡ length rows = length-choices w rows in
               o.only w m (c.pads ∙ ap (λ i. padded i (trimmed (choices w rows))) n ∙ ap (padded (length rows)) e1);
         }
+
+    fails : (v : Values) → IsModel v s → (t : ℕ) → t < length rows → (end : State) → run p (take (suc t) (read (encoded s goal start rows) v)) (start_of p) ≡ Some end → row_true v (failures_of rows) t ≡ (nat_lt t (length (read (encoded s goal start rows) v)) && end.is_failed)
+    fails v m t h end e =
+        let q = u.reached v m in
+        let c = read_choices v rows in
+        fails_at p a v (beginning p) rows q.phase q.follows t h end (ap (λ cs. run p (take (suc t) (trimmed cs)) (start_of p)) (sym c) ∙ e) ∙ ap (λ cs. nat_lt t (length (trimmed cs)) && end.is_failed) (sym c)
 
     deep : (v : Values) → IsModel v s → (t : ℕ) → t ≤ length rows → (end : State) → run p (take t (read (encoded s goal start rows) v)) (start_of p) ≡ Some end → (d : ℕ) → row_true v (row_of (start ∷ depths_of rows) t) d ≡ (suc d == length end.stack)
     deep v m zero h end e d = st.begins v m d ∙ (let i : start_of p ≡ end = cc in ap (λ x. suc d == length x.stack) i)

@@ -1,6 +1,7 @@
 pub mod Built
 pub mod Describing
 pub mod Examples
+pub mod Failing
 pub mod Freedom
 pub mod Induction
 pub mod Moving

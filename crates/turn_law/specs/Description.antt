@@ -1,8 +1,8 @@
 -- Descriptions: what the formula of a guarded program says.
-use Rattle.std.specs.Prelude.{◌≡◌, ℕ, suc, ◌<◌, ◌≤◌, Bool, ◌==◌, List, [], ◌∷◌, length, take, get_or}
+use Rattle.std.specs.Prelude.{◌≡◌, ℕ, suc, ◌<◌, ◌≤◌, Bool, ◌&&◌, ◌==◌, nat_lt, List, [], ◌∷◌, length, take, get_or}
 use Rattle.clause_form.specs.declared.lit.Lit.{Lit}
 use Rattle.clause_form.specs.ClauseTruth.{Values, Agree, is_clause_true}
-use Rattle.clause_form.specs.Literals.{AreOf, IsClause}
+use Rattle.clause_form.specs.Literals.{AreOf, IsClause, has}
 use Rattle.bit_circuit.specs.BusValue.{number}
 use Rattle.bit_circuit.specs.Extension.{PlainFormula, IsModel}
 use Rattle.guard_prog.specs.GuardedRun.{Program, State, IsRun, IsRunTo}
@@ -43,6 +43,17 @@ abbrev pub AreRowsWithin : ℕ → List (List Lit) → Type 0
 AreRowsWithin n [] = Unit {0}
 AreRowsWithin n (row ∷ rows) = AreOf n row × AreRowsWithin n rows
 
+-- a literal for each turn, which is true exactly where the run has that turn and fails in it
+pub record AreFailures (e : PlainEncoding) (p : Program) (k : ℕ) (failures : List Lit) : Type 0 where
+  pub count : length failures ≡ k
+  pub each : (v : Values) → IsModel v e.formula → (t : ℕ) → t < k → (s : State) → IsRunTo p (take (suc t) (read e v)) s → row_true v failures t ≡ (nat_lt t (length (read e v)) && s.is_failed)
+
+-- the goal has the failure literal of every turn, also where that is constantly false, and no other; equal ones stand once
+pub record HoldsFailures (e : PlainEncoding) (p : Program) (k : ℕ) : Type 0 where
+  pub failures : List Lit
+  pub are : AreFailures e p k failures
+  pub same : (l : Lit) → has e.goal l ≡ has failures l
+
 -- the assignments that make the formula true are the runs of at most k turns of the program, one for each
 pub record Describes (e : PlainEncoding) (p : Program) (k : ℕ) : Type 0 where
   pub turns : length e.alternatives ≡ k
@@ -54,9 +65,10 @@ pub record Describes (e : PlainEncoding) (p : Program) (k : ℕ) : Type 0 where
   pub each : (pairs : List (ℕ × ℕ)) → length pairs ≤ k → IsRun p pairs → HasOneModel e pairs
   -- (c) the true depth literal is the one of the number of points above the bottom, which the padding keeps
   pub depth : (v : Values) → IsModel v e.formula → (t : ℕ) → t ≤ k → (s : State) → IsRunTo p (take t (read e v)) s → (d : ℕ) → row_true v (row_of e.depths t) d ≡ (suc d == length s.stack)
-  -- (d) the goal isn't empty, its variables rise strictly, and it is true exactly where the run ends in a failure
+  -- (d) the goal isn't empty, its variables rise strictly, it has the failure literals of the turns, and it is true exactly where the run ends in a failure
   pub some : 0 < length e.goal
   pub rises : IsClause e.goal
+  pub failures : HoldsFailures e p k
   pub goal : (v : Values) → IsModel v e.formula → (s : State) → IsRunTo p (read e v) s → is_clause_true v e.goal ≡ s.is_failed
   -- (e) every literal has a variable of the formula
   pub goal_within : AreOf e.formula.variables e.goal

@@ -1,8 +1,8 @@
 -- Turns that are unrolled, as an encoding, and the laws that lead from one turn to the description.
 use Rattle.std.specs.Prelude.{◌≡◌, ℕ, suc, ◌+◌, ◌<◌, Bool, true, false, ◌||◌, if◌then◌else◌, ◌==◌, List, [], ◌∷◌, ◌++◌, length, Option, None}
 use Rattle.clause_form.specs.declared.lit.Lit.{Lit}
-use Rattle.clause_form.specs.ClauseTruth.{Values, is_lit_true, is_clause_true}
-use Rattle.clause_form.specs.Literals.{AreOf, IsClause, literal}
+use Rattle.clause_form.specs.ClauseTruth.{Values, is_lit_true}
+use Rattle.clause_form.specs.Literals.{AreOf, IsClause, has, literal}
 use Rattle.bit_circuit.specs.Extension.{PlainFormula, IsModel, formula, with_clauses}
 use Rattle.guard_prog.specs.declared.draft.Alternative.{Alternative}
 use Rattle.guard_prog.specs.declared.draft.Draft.{Draft}
@@ -42,6 +42,11 @@ abbrev pub depths_of : List Row → List (List Lit)
 depths_of [] = []
 depths_of (r ∷ rs) = r.depth ∷ depths_of rs
 
+-- the failure literal of each row
+abbrev pub failures_of : List Row → List Lit
+failures_of [] = []
+failures_of (r ∷ rs) = r.failure ∷ failures_of rs
+
 -- a turn fails
 abbrev pub failed_in : Values → List Row → Bool
 failed_in v [] = false
@@ -52,12 +57,10 @@ abbrev pub encoded : PlainFormula → List Lit → List Lit → List Row → Pla
 encoded s goal start rows =
     record { formula = s; goal = goal; depths = start ∷ depths_of rows; alternatives = labels_of rows; inputs = words_of rows }
 
--- the goal so far: its variables rise strictly, the formula has them, and it is true where a turn failed
-pub record IsGoal (s : PlainFormula) (rows : List Row) (goal : List Lit) : Type 0 where
-  pub some : 0 < length goal
+-- the goal: the rows' failure literals and no others, each once, by rising variables
+pub record IsGoal (rows : List Row) (goal : List Lit) : Type 0 where
   pub rises : IsClause goal
-  pub within : AreOf s.variables goal
-  pub fails : (v : Values) → IsModel v s → is_clause_true v goal ≡ failed_in v rows
+  pub same : (l : Lit) → has goal l ≡ has (failures_of rows) l
 
 -- the literals of the depth at the start
 pub record IsStart (p : Program) (s : PlainFormula) (start : List Lit) : Type 0 where
@@ -86,8 +89,8 @@ OneMoreTurnIsUnrolled =
     (p : Program) (s new : PlainFormula) (before after : Symbol) (rows : List Row) (r : Row) →
     Unrolls p s before rows → MakesTurn p s new before after r → Unrolls p new after (rows ++ r ∷ [])
 
--- turns that are unrolled, with a goal, are a description
+-- turns that are unrolled, at least one, with a goal, are a description
 abbrev pub UnrolledTurnsDescribe : Type 0
 UnrolledTurnsDescribe =
     (p : Program) (s : PlainFormula) (symbol : Symbol) (rows : List Row) (start goal : List Lit) →
-    AreLabelled p → Unrolls p s symbol rows → IsStart p s start → IsGoal s rows goal → Describes (encoded s goal start rows) p (length rows)
+    AreLabelled p → Unrolls p s symbol rows → 0 < length rows → IsStart p s start → IsGoal rows goal → Describes (encoded s goal start rows) p (length rows)

@@ -132,3 +132,29 @@ fit_labels n widths os f = labels_most (greatest_of os) os (omega arith) (fit_nu
 pub labels_within : (m n : ℕ) (as' : List PlainAlternative) → m < n → labels_below m as' → AreBelow Label n as'
 labels_within m n [] h l = tt
 labels_within m n (a ∷ as') h l = (omega (arith, l.1), labels_within m n as' h l.2)
+
+-- ---- labels are small
+-- the greatest of two lists is in one of them
+greatest_joined : (m : ℕ) (os qs : List Offer) → greatest_of os < m → greatest_of qs < m → greatest_of (os ++ qs) < m
+greatest_joined m [] qs h k = k
+greatest_joined m (o ∷ os) qs h k = let r = greatest_joined m os qs (omega (arith, h)) k in omega (arith, h, r)
+
+greatest_here : (i : ℕ) (xs : List Alternative) → list_all (λ a. nat_le 1 a.label && nat_lt a.label (2 ^ 20)) xs ≡ true → greatest_of (offers_here i (plain_alternatives xs)) < 2 ^ 20
+greatest_here i [] l = omega arith
+greatest_here i (x ∷ xs) l =
+    let p = both (nat_le 1 x.label && nat_lt x.label (2 ^ 20)) (list_all (λ a. nat_le 1 a.label && nat_lt a.label (2 ^ 20)) xs) l in
+    let q = (both (nat_le 1 x.label) (nat_lt x.label (2 ^ 20)) p.0).1 in
+    let h : x.label < 2 ^ 20 = grind (arith, nat_tests, q) in
+    let r = greatest_here i xs p.1 in
+    omega (arith, h, r)
+
+greatest_points : (i : ℕ) (points : List (List Alternative)) → ((q : ℕ) → list_all (λ a. nat_le 1 a.label && nat_lt a.label (2 ^ 20)) (unwrap_or (slice_get points q) []) ≡ true) → greatest_of (offers_from i points) < 2 ^ 20
+greatest_points i [] h = omega arith
+greatest_points i (p ∷ points) h = greatest_joined (2 ^ 20) (offers_here i (plain_alternatives p)) (offers_from (i + 1) points) (greatest_here i p (h 0)) (greatest_points (i + 1) points (λ q. h (suc q)))
+
+-- the greatest label is below 2 ^ 20
+pub draft_few : (d : Draft) → IsWellShaped d → greatest_of (offers_from 0 d.points) < 2 ^ 20
+draft_few d w = greatest_points 0 d.points label
+  where
+    label : (q : ℕ) → list_all (λ a. nat_le 1 a.label && nat_lt a.label (2 ^ 20)) (point_of d q) ≡ true
+    label q = (both (are_distinct_by (λ a. a.label) (point_of d q)) (list_all (λ a. nat_le 1 a.label && nat_lt a.label (2 ^ 20)) (point_of d q)) (w.labels q)).1

@@ -1,6 +1,7 @@
 pub mod Advancing
 pub mod Allowing
 pub mod Demanding
+pub mod Failing
 pub mod Fitting
 pub mod Joining
 pub mod Making
@@ -8,6 +9,7 @@ pub mod Offering
 pub mod Opening
 pub mod Picking
 pub mod Proceeding
+pub mod Reading
 pub mod Setting
 pub mod Showing
 pub mod Starting

@@ -20,7 +20,7 @@ use Rattle.turn_unroll.specs.Rows.{GivesLit, GivesRow, GivesSlots, IsFreePlace, 
 pub truth_more : (s new : PlainFormula) (free : List Lit) → HasTruth s → ExtendsWith s new free → HasTruth new
 truth_more s new free t e = record { starts = omega (arith, t.starts, e.grows); one = λ v m. t.one v (kept e v m) }
 
-never_variable : variable never ≡ 1
+pub never_variable : variable never ≡ 1
 unfolding variable
 never_variable = refl
 

@@ -14,3 +14,10 @@ lit_at rows row column = of_row (slice_get rows row) column
 abbrev pub AreWide : ℕ → List (List Lit) → Type 0
 AreWide n [] = Unit {0}
 AreWide n (row ∷ rows) = (length row ≡ n) × AreWide n rows
+
+-- every row has so many columns, or fewer than so many
+abbrev pub HasColumns : ℕ → List (List Lit) → Type 0
+HasColumns n rows = (t : ℕ) (row : List Lit) → slice_get rows t ≡ Some row → length row ≡ n
+
+abbrev pub HasFewer : ℕ → List (List Lit) → Type 0
+HasFewer n rows = (t : ℕ) (row : List Lit) → slice_get rows t ≡ Some row → length row < n

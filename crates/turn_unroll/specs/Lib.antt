@@ -1,11 +1,13 @@
 pub mod Cells
 pub mod Demands
 pub mod Encodings
+pub mod Goals
 pub mod Grids
 pub mod Labels
 pub mod Offers
 pub mod Places
 pub mod Rows
+pub mod Runs
 pub mod Stack
 pub mod Starts
 pub mod Turns

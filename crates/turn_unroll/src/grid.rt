@@ -1,5 +1,5 @@
 // Grids of literals.
-ghost use Rattle.std.specs.Prelude.{◌≡◌, [], ◌∷◌, ◌++◌, OnErr, OnOk, slice_get};
+ghost use Rattle.std.specs.Prelude.{◌≡◌, [], ◌∷◌, ◌++◌, OnErr, OnOk, length, slice_get};
 ghost use Rattle.std.specs.Option.{option_copied};
 ghost use Rattle.turn_unroll.specs.Grids.{lit_at};
 
@@ -36,6 +36,13 @@ impl Grid {
         ensures err { OnErr result (self.new ≡ self.old) }
     {
         self.rows.push(row)
+    }
+
+    // The number of rows.
+    pub(crate) fn len(&self) -> usize
+        ensures { result ≡ length self.now }
+    {
+        self.rows.len()
     }
 
     // The literals of a row.

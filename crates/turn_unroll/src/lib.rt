@@ -4,13 +4,17 @@
 mod cells;
 mod demands;
 pub mod encoding;
+mod goal;
 pub mod grid;
 mod guards;
 mod labels;
 mod offers;
 mod rows;
+pub mod run;
 mod stack;
 mod start;
+#[cfg(test)]
+mod tests;
 mod turn;
 pub mod unroll;
 mod ways;

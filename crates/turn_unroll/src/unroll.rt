@@ -1,24 +1,25 @@
 // All turns of a guarded program.
-ghost use Rattle.std.specs.Prelude.{◌≡◌, ◌+◌, ◌≤◌, IfOk, OnOk, length};
-ghost use Rattle.clause_form.specs.Literals.{last_variable};
+ghost use Rattle.std.specs.Prelude.{◌≡◌, ◌+◌, ◌≤◌, ◌^◌, IfOk, length};
 ghost use Rattle.guard_prog.specs.Drafts.{program_of};
 ghost use Rattle.guard_prog.specs.WellShaped.{IsWellShaped};
 ghost use Rattle.turn_law.specs.Description.{Describes};
 ghost use Rattle.turn_law.specs.Unrolled.{offers_from};
 ghost use Rattle.turn_unroll.specs.Encodings.{encoding_of};
+ghost use Rattle.turn_unroll.specs.Grids.{HasColumns, HasFewer};
 ghost use Rattle.turn_unroll.specs.Offers.{greatest_of};
-ghost use Rattle.turn_unroll.specs.Unrolls.{HasShape, IsUnrolled, goal_with, last_with};
+ghost use Rattle.turn_unroll.specs.Unrolls.{HasShape, IsUnrolled};
 ghost use Rattle.turn_unroll.specs.Ways.{offers_of};
 
 use crate::encoding::Encoding;
+use crate::goal::{failure_with, goal_of, last_with};
 use crate::grid::Grid;
 use crate::offers::{Offered, all_offers, greatest_label};
-use crate::rows::{NO, copy_row};
+use crate::rows::copy_row;
 use crate::start::start;
 use crate::turn::{State, Turned, turn};
 use bit_circuit::circuit::Circuit;
 use clause_form::clause::Clause;
-use clause_form::lit::Lit;
+use clause_form::lit::Lits;
 use guard_prog::draft::Draft;
 use guard_prog::guarded::Guarded;
 use std::alloc::{AllocError, Global};
@@ -28,7 +29,7 @@ use std::alloc::{AllocError, Global};
 struct Unrolled {
     circuit: Circuit,
     state: State,
-    goal: Clause,
+    failures: Lits,
     last: u64,
     depths: Grid,
     alternatives: Grid,
@@ -43,33 +44,17 @@ fn begun(alloc: Global, draft: &Draft, count: u32) -> Result<Unrolled, AllocErro
     let _ = count;
     let circuit = Circuit::new(alloc)?;
     let state = start(alloc, draft)?;
-    let mut goal = Clause::new(alloc);
-    goal.push(NO)?;
     let mut depths = Grid::new(alloc);
     depths.push(copy_row(alloc, &state.depth)?)?;
     Ok(Unrolled {
         circuit,
         state,
-        goal,
+        failures: Lits::new(alloc),
         last: 1,
         depths,
         alternatives: Grid::new(alloc),
         inputs: Grid::new(alloc),
     })
-}
-
-// Puts a failure to the goal, and answers the last variable; one of a variable that isn't new is never true.
-fn put_failure(goal: &mut Clause, last: u64, failure: Lit) -> Result<u64, AllocError>
-    requires { last_variable 0 goal.old ≡ last }
-    ensures goal { OnOk result (goal.new ≡ goal_with goal.old last failure) }
-    ensures last { IfOk result (λ now. now ≡ last_with last failure) }
-{
-    if last < failure.variable() {
-        goal.push(failure)?;
-        Ok(failure.variable())
-    } else {
-        Ok(last)
-    }
 }
 
 // One more turn.
@@ -91,28 +76,28 @@ fn advanced(
     let Unrolled {
         mut circuit,
         state: before,
-        mut goal,
+        mut failures,
         last,
         mut depths,
         mut alternatives,
         mut inputs,
     } = unrolled;
     let turned = turn(alloc, &mut circuit, draft, offers, count, &before)?;
-    let last = put_failure(&mut goal, last, turned.failure)?;
     let Turned {
         labels,
         word,
-        failure: _,
+        failure,
         state,
     } = turned;
+    failures.push(failure_with(last, failure))?;
     depths.push(copy_row(alloc, &state.depth)?)?;
     alternatives.push(labels)?;
     inputs.push(word)?;
     Ok(Unrolled {
         circuit,
         state,
-        goal,
-        last,
+        failures,
+        last: last_with(last, failure),
         depths,
         alternatives,
         inputs,
@@ -120,14 +105,16 @@ fn advanced(
 }
 
 // The encoding of the turns.
-fn encoded(unrolled: Unrolled, turns: u16) -> Encoding
-    ensures encoding { encoding_of result ≡ record { formula = unrolled.circuit; goal = unrolled.goal; depths = unrolled.depths; alternatives = unrolled.alternatives; inputs = unrolled.inputs } }
+fn encoded(unrolled: Unrolled, goal: Clause, turns: u16) -> Encoding
+    requires labels { HasFewer (2 ^ 32) unrolled.alternatives }
+    requires bits { HasColumns 32 unrolled.inputs }
+    ensures encoding { encoding_of result ≡ record { formula = unrolled.circuit; goal = goal; depths = unrolled.depths; alternatives = unrolled.alternatives; inputs = unrolled.inputs } }
     ensures turns { result.turns ≡ turns }
 {
     let Unrolled {
         circuit,
         state: _,
-        goal,
+        failures: _,
         last: _,
         depths,
         alternatives,
@@ -159,5 +146,6 @@ pub fn unroll(alloc: Global, program: &Guarded, turns: u16) -> Result<Encoding, 
     for t in 0..turns {
         unrolled = advanced(alloc, unrolled, draft, &offers, count, t)?;
     }
-    Ok(encoded(unrolled, turns))
+    let goal = goal_of(alloc, &unrolled.failures)?;
+    Ok(encoded(unrolled, goal, turns))
 }
