@@ -7,10 +7,10 @@ here=$(cd "$(dirname "$0")" && pwd)
 top=$(cd "$here/../.." && pwd)
 work=${1:-$(mktemp -d)}
 mkdir -p "$work/crates"
-for crate in chk_base app_model step_ir osek_machine replay; do
+for crate in chk_base grammar oil_text oil_rules app_model step_ir osek_machine replay; do
     cp -r "$top/crates/$crate" "$work/crates/"
 done
-grep -E '^(chk_base|app_model|step_ir|osek_machine|replay):' "$top/crates.txt" >"$work/crates.txt"
+grep -E '^(chk_base|grammar|oil_text|oil_rules|app_model|step_ir|osek_machine|replay):' "$top/crates.txt" >"$work/crates.txt"
 cat "$here/replay_schedule.txt" >>"$work/crates/replay/src/tests.rt"
 (cd "$work/crates/replay" && rt test)
 time "$work/crates/replay/out/replay_tests"

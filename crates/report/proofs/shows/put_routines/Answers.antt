@@ -1,0 +1,14 @@
+use Rattle.std.proofs.Common.{length, arith}
+use Rattle.std.proofs.lemmas.Result.{err_from_is_err_and}
+use Rattle.report.specs.ShowTexts.{routine_line}
+use Rattle.report.proofs.Printing.{each_cut, each_next, prints_nothing}
+use Rattle.report.proofs.shows.put_routines.Goals as goal
+
+pub loop-i-init : goal.loop-i-init
+loop-i-init g c = prints_nothing _ _
+
+pub returns-in_err-put_routine : goal.returns-in_err-put_routine
+returns-in_err-put_routine g c = let p = err_from_is_err_and c.from_residual.result c.from_residual.ensures.1 in rw (p.1, ← c.items-routines.ensures) (each_cut (routine_line c.args.code.now) (length c.args.app.now.tasks) _ c.loop-i.i _ _ c.loop-i-test.true c.index-routines-i.is (omega arith) c.loop-i.invariant c.in_err-put_routine.ensures)
+
+pub loop-i-preserved : goal.loop-i-preserved
+loop-i-preserved g c = each_next (routine_line c.args.code.now) (length c.args.app.now.tasks) _ c.loop-i.i _ _ c.loop-i-test.true c.index-routines-i.is (omega arith) c.loop-i.invariant c.in_ok-put_routine.ensures

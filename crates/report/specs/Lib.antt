@@ -1,0 +1,9 @@
+pub mod Lines
+pub mod EventTexts
+pub mod RefusalTexts
+pub mod CheckTexts
+pub mod RunTexts
+pub mod ShowTexts
+pub mod ReplayTexts
+pub mod PrintedTexts
+pub mod Printing
