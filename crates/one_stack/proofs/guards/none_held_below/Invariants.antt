@@ -1,0 +1,8 @@
+use Rattle.std.proofs.Common.{◌≡◌}
+use Rattle.chk_base.specs.Term.{term_of}
+use Rattle.one_stack.specs.Rules as rules
+use Rattle.one_stack.specs.Tables.{plan_in, seen}
+use Rattle.one_stack.proofs.guards.none_held_below.Given as goal
+
+abbrev pub invariant-loop-r : goal.invariant-loop-r
+invariant-loop-r l = term_of l.all ≡ rules.none_of (seen l.layout) (plan_in l.layout) rules.Held (rules.ceiling_at (seen l.layout) (plan_in l.layout) l.l l.h) l.r

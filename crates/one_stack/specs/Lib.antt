@@ -1,0 +1,14 @@
+pub mod PlainCode
+pub mod TaskForm
+pub mod Rules
+pub mod Built
+pub mod BuildExact
+pub mod Cells
+pub mod Tables
+pub mod Inside
+pub mod Plain
+pub mod Near
+pub mod Starting
+pub mod Laid
+pub mod Labelled
+pub mod Sample
