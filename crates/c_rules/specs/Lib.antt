@@ -1,0 +1,10 @@
+pub mod First
+pub mod Written
+pub mod Meanings
+pub mod Scopes
+pub mod PlainScopes
+pub mod PlainFiles
+pub mod Files
+pub mod Rules
+pub mod StatementRules
+pub mod UnitRules
