@@ -1,39 +1,17 @@
-// Lowering is exact.
-ghost use Rattle.std.specs.Prelude.{◌≡◌, ℕ, ◌<◌, length, Some};
-ghost use Rattle.chk_base.specs.declared.word.Width.{Width};
-ghost use Rattle.step_ir.specs.PointStep.{Program, of_points};
-ghost use Rattle.lower.specs.EntityStep.{of_unit};
-ghost use Rattle.lower.specs.Exact.{Layout, IsLowered, IsExact, FitsEntity, AreLowered, HasSameEvents, lowered};
-ghost use Rattle.c_types.specs.Plain.{PlainEntity, PlainUnit};
-ghost use Rattle.step_ir.specs.Fits.{bit_count};
-ghost use Rattle.lower.specs.Counts.{bit_total, call_depth, entity_points};
-ghost use Rattle.lower.specs.Layout.{cell_width, layout, lowered_points, names_before};
-ghost use Rattle.lower.specs.Scoped.{IsBody};
-ghost use Rattle.lower.specs.Statements.{CellUnit};
-ghost use Rattle.lower.specs.Translated.{entity_body, unit_over_cells};
+// The pieces of statements are their points.
+ghost use Rattle.std.specs.Prelude.{◌≡◌, ℕ, ◌^◌, List};
+ghost use Rattle.lower_law.specs.Lowered.{Context, Nexts, Plan, points_all};
+ghost use Rattle.lower_law.specs.Statements.{CellBlock, CellFunction};
+ghost use Rattle.lower.specs.Expanded.{expanded, AreCalls};
+ghost use Rattle.lower.specs.Fitting.{AllFit};
+ghost use Rattle.lower.specs.Pieces.{pieces_all};
+ghost use Rattle.lower.specs.declared.tree.FunctionTree.{FunctionTree};
 
-/// An entity takes the same steps over the typed unit and over its points, one for one, with the same events.
-pub fn lowering_is_exact()
-    ensures units { (unit : CellUnit) (depth : ℕ) (lay : Layout) (width : ℕ → Width) (e : ℕ)
-        → FitsEntity unit depth lay width e → IsExact unit depth lay (lowered unit depth lay width) e }
-    ensures numbers { (unit : CellUnit) (depth : ℕ) (lay : Layout) (code : Program) (number : ℕ → ℕ) (e : ℕ)
-        → IsLowered unit depth lay code number e → IsExact unit depth lay code e }
-{}
-
-/// So the standard's scheduler has the same events over both, for the same choices, from any contents of the cells.
-pub fn schedules_are_the_same()
-    ensures { (unit : CellUnit) (depth : ℕ) (lay : Layout) (code : Program) (number : ℕ → ℕ → ℕ) (n : ℕ)
-        → AreLowered unit depth lay code number n
-        → HasSameEvents lay.globals (of_unit unit depth lay.first) (of_points code) }
-{}
-
-/// A typed unit whose names are right fits its cells, so that lowering it is exact; each entity has the points that are counted for it,
-/// and the cells of the first entities, with the globals, have the bits that are counted.
-pub fn units_fit_their_cells()
-    ensures fits { (u : PlainUnit) (n e : ℕ) (b : PlainEntity)
-        → e < n → entity_body e u.entities ≡ Some b → IsBody u b
-        → FitsEntity (unit_over_cells u) call_depth (layout u) (cell_width u n) e }
-    ensures points { (u : PlainUnit) (n e : ℕ) (b : PlainEntity)
-        → entity_body e u.entities ≡ Some b → length (lowered_points u n e) ≡ entity_points u b }
-    ensures bits { (u : PlainUnit) (n : ℕ) → bit_count (names_before u n) ≡ bit_total u n }
+/// Once each call is expanded at its place, the pieces of statements are the points that the law has for them.
+pub fn pieces_are_points()
+    ensures { (number : ℕ → ℕ) (temp : ℕ) (fun : ℕ → CellFunction) (rooms : ℕ → ℕ) (calls : ℕ → Plan) (functions : List FunctionTree) (sizes cells : ℕ → ℕ)
+        → AreCalls number temp fun rooms calls functions sizes cells
+        → (b : CellBlock) (ctx : Context) (at cell : ℕ) (after : Nexts)
+        → AllFit (2 ^ 16) functions sizes cells temp ctx.base at cell b
+        → expanded calls (pieces_all number temp functions sizes cells ctx at cell b after) ≡ points_all number temp fun rooms calls ctx at cell b after }
 {}

@@ -1,5 +1,16 @@
-// From the typed unit to points: the law that its lowering is exact, and the terms of its operators.
+//! Typed units of C become points: their expressions over cells, what a thing reads and tests, and the points of statements.
 #![tactic(auto)]
 
+pub mod actions;
+pub mod asking;
+pub mod copies;
+pub mod entries;
+pub mod evaluation;
 pub mod law;
-pub mod operations;
+pub mod pieces;
+pub mod sizes;
+pub mod steps;
+#[cfg(test)]
+mod tests;
+pub mod translation;
+pub mod tree;

@@ -1,6 +1,0 @@
--- The law is one lemma.
-use Rattle.lower.proofs.Schedules.{same_schedules}
-use Rattle.lower.proofs.law.schedules_are_the_same.Goals as goal
-
-pub returns : goal.returns
-returns c = same_schedules

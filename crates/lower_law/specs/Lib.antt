@@ -1,0 +1,13 @@
+pub mod Typed
+pub mod Ask
+pub mod Items
+pub mod Statements
+pub mod EntityStep
+pub mod Lowered
+pub mod FitsBody
+pub mod Exact
+pub mod Translated
+pub mod Counts
+pub mod Layout
+pub mod Named
+pub mod Scoped
