@@ -1,0 +1,11 @@
+//! What is counted for a typed unit, and the cells that it takes.
+#![tactic(auto)]
+
+pub mod cells;
+pub mod counts;
+mod expressions;
+mod names;
+pub mod tally;
+#[cfg(test)]
+mod tests;
+pub mod things;
