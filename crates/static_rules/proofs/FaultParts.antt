@@ -19,7 +19,7 @@ use Rattle.static_rules.specs.declared.site.Site.{Site}
 use Rattle.static_rules.specs.Chains.{body, all_below, reaches, sites_of_those, reached_sites}
 use Rattle.static_rules.specs.Found.{IsTable}
 use Rattle.static_rules.specs.Rules.{unless_any, variable_faults, function_faults, function_local_faults, entity_local_faults, size_faults}
-use Rattle.static_rules.proofs.Tests.{all_more, all_same}
+use Rattle.static_rules.proofs.Bounds.{all_more, all_same}
 
 -- the faults for one more number
 pub below_more : (best : Option Fault) (f : ℕ → List Fault) (n : ℕ) → first_of best (all_below f (n + 1)) ≡ first_of (first_of best (all_below f n)) (f n)

@@ -9,7 +9,7 @@ use Rattle.app_model.specs.Levels.{has_number}
 use Rattle.static_rules.specs.declared.site.Site.{Site}
 use Rattle.static_rules.specs.Chains.{is_call_of, calls, body, any_below}
 use Rattle.static_rules.specs.Found.{IsTable, Finds}
-use Rattle.static_rules.proofs.Tests.{or_false, or_assoc, any_more}
+use Rattle.static_rules.proofs.Bounds.{or_false, or_assoc, any_more}
 
 -- nothing is found
 pub finds_nothing : (flags : List Bool) (fresh : List ℕ) (test : ℕ → Bool) → ((g : ℕ) → test g ≡ false) → Finds flags fresh flags fresh test

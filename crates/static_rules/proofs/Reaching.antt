@@ -8,7 +8,7 @@ use Rattle.app_model.specs.Levels.{has_number}
 use Rattle.static_rules.specs.declared.site.Site.{Site}
 use Rattle.static_rules.specs.Chains.{is_call_of, calls, body, any_below, called_after, reaches}
 use Rattle.static_rules.specs.Found.{IsTable, Finds}
-use Rattle.static_rules.proofs.Tests.{or_false, same_tests, any_more, any_at, any_some, any_same}
+use Rattle.static_rules.proofs.Bounds.{or_false, same_tests, any_more, any_at, any_some, any_same}
 use Rattle.static_rules.proofs.Finding.{table_then, table_same}
 
 -- what calls something is a function
@@ -51,9 +51,15 @@ after_none : (bodies : List (List Site)) (start : List Site) (g : ℕ) → calle
 unfolding called_after
 after_none bodies start g = refl
 
-after_more : (bodies : List (List Site)) (start : List Site) (n g : ℕ) → called_after bodies start (suc n) g ≡ any_below (λ f. called_after bodies start n f && calls (body bodies f) g) (length bodies)
+pub after_more : (bodies : List (List Site)) (start : List Site) (n g : ℕ) → called_after bodies start (suc n) g ≡ any_below (λ f. called_after bodies start n f && calls (body bodies f) g) (length bodies)
 unfolding called_after
 after_more bodies start n g = refl
+
+-- one call more leads on
+pub called_next : (bodies : List (List Site)) (start : List Site) (n f g : ℕ) → f < length bodies → called_after bodies start n f ≡ true → calls (body bodies f) g ≡ true → called_after bodies start (suc n) g ≡ true
+called_next bodies start n f g inside led called =
+    let here : (called_after bodies start n f && calls (body bodies f) g) ≡ true = and_from (called_after bodies start n f) (calls (body bodies f) g) led called in
+    after_more bodies start n g ∙ any_at (λ h. called_after bodies start n h && calls (body bodies h) g) (length bodies) f inside here
 
 pub spread_begins : (bodies : List (List Site)) (start : List Site) (none flags : List Bool) (before fresh : List ℕ) → IsTable none (length bodies) (λ g. false) → before ≡ [] → Finds none before flags fresh (calls start) → IsSpread bodies start 1 flags fresh
 spread_begins bodies start none flags before fresh table empty found =
@@ -93,9 +99,7 @@ spread_more bodies start count flags fresh flags' fresh' some spread finds = rec
 
     later : (g f n : ℕ) → g < length bodies → f < length bodies → n < count → called_after bodies start n f ≡ true → calls (body bodies f) g ≡ true → any_below (λ n. called_after bodies start n g) (count + 1) ≡ true
     later g f n inside among below led called =
-        any_at (λ n. called_after bodies start n g) (count + 1) (suc n) (omega arith)
-        (after_more bodies start n g
-        ∙ any_at (λ f. called_after bodies start n f && calls (body bodies f) g) (length bodies) f among (and_from (called_after bodies start n f) (calls (body bodies f) g) led called))
+        any_at (λ n. called_after bodies start n g) (count + 1) (suc n) (omega arith) (called_next bodies start n f g among led called)
 
     to : (g : ℕ) → g < length bodies → get_or flags' g false ≡ true → any_below (λ n. called_after bodies start n g) (count + 1) ≡ true
     to g inside is = by (or_cases (get_or flags g false) (calls (flat_map (body bodies) fresh) g) (sym (finds.flagged g (sized g inside)) ∙ is))

@@ -6,6 +6,9 @@ mod chains;
 pub mod check;
 mod collect;
 mod found;
+pub mod law;
 mod resources;
 pub mod site;
 mod sizes;
+#[cfg(test)]
+mod tests;
