@@ -1,5 +1,5 @@
 pub mod Firsts
-mod Least
+pub mod Least
 mod FileNames
 mod ScopeLists
 mod ExpressionParts

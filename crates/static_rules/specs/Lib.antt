@@ -1,0 +1,5 @@
+pub mod Sites
+pub mod Chains
+pub mod Found
+pub mod Rules
+pub mod Checked
