@@ -4,3 +4,4 @@ pub mod Conversions
 pub mod TypedExpressions
 pub mod TypedStatements
 pub mod Typed
+pub mod Answers

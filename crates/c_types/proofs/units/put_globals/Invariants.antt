@@ -1,0 +1,7 @@
+use Rattle.std.proofs.Common.{◌≡◌, ◌++◌, take, map}
+use Rattle.c_types.specs.Typed.{global_declared}
+use Rattle.c_types.proofs.units.put_globals.Given as goal
+
+-- the variables so far
+abbrev pub invariant-loop-d : goal.invariant-loop-d
+invariant-loop-d l = l.globals ≡ l.initial.globals ++ map global_declared (take l.d-index l.declarations)
