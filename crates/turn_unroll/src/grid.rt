@@ -52,6 +52,13 @@ impl Grid {
         self.rows.get(row)
     }
 
+    /// All rows.
+    pub fn rows(&self) -> &Lists
+        ensures { result.now ≡ self.now }
+    {
+        &self.rows
+    }
+
     /// The literal of a row and a column, and None exactly outside the rows and columns.
     pub fn at(&self, row: u16, column: u32) -> Option<Lit>
         ensures { result ≡ lit_at self.now row column }

@@ -1,0 +1,3 @@
+pub mod Spilling
+pub mod Streaming
+pub mod Whole

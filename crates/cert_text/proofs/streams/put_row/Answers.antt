@@ -1,0 +1,28 @@
+use Rattle.std.proofs.Common.{◌≡◌, ◌+◌, Some, None, arith}
+use Rattle.std.proofs.lemmas.Result.{err_from_is_err_and}
+use Rattle.std.specs.List.{slice_get}
+use Rattle.cert_text.proofs.Streaming.{breaks_at, done_all, get_past, goes_at, starts}
+use Rattle.cert_text.proofs.streams.put_row.Goals as goal
+use Rattle.cert_text.specs.Parts.{cell_line, clause_line, label_line, log_line, log_part, parts_from, row_lines, table_lines, value_text}
+
+pub loop-at-init : goal.loop-at-init
+loop-at-init g c = starts (cell_line c.args.word.now c.args.number) 0 c.args.row.now _ _
+
+pub loop-at-preserved : goal.loop-at-preserved
+loop-at-preserved g c =
+    let e : slice_get c.args.row.now c.loop-at.at ≡ Some c.in-Some.item.now = cc (c.in-Some.ensures) in
+    goes_at (cell_line c.args.word.now c.args.number) 0 c.args.row.now _ _ _ _ _ _ c.loop-at.at (c.loop-at.at) c.in-Some.item.now e (omega arith) c.loop-at.invariant c.in_ok-spill_cell.ensures
+
+pub returns-in_err-spill_cell : goal.returns-in_err-spill_cell
+returns-in_err-spill_cell g c =
+    let e : slice_get c.args.row.now c.loop-at.at ≡ Some c.in-Some.item.now = cc (c.in-Some.ensures) in
+    let p = err_from_is_err_and c.from_residual.result c.from_residual.ensures.1 in
+    rw (p.1, p.2) (breaks_at (cell_line c.args.word.now c.args.number) 0 c.args.row.now _ _ _ _ _ _ c.loop-at.at (c.loop-at.at) c.in-Some.item.now _ e (omega arith) c.loop-at.invariant c.in_err-spill_cell.ensures)
+
+pub returns-in_default : goal.returns-in_default
+returns-in_default g c =
+    let e : slice_get c.args.row.now c.loop-at.at ≡ None = cc (c.in_default.ensures) in
+    done_all (cell_line c.args.word.now c.args.number) 0 c.args.row.now _ _ _ _ c.loop-at.at e c.loop-at.invariant
+
+pub returns : goal.returns
+returns g c = done_all (cell_line c.args.word.now c.args.number) 0 c.args.row.now _ _ _ _ c.loop-at.at (get_past c.args.row.now c.loop-at.at (omega arith)) c.loop-at.invariant
