@@ -5,6 +5,10 @@ mod calls;
 pub mod convert;
 mod expressions;
 mod statements;
+#[cfg(test)]
+mod tests;
 pub mod typed;
+#[cfg(test)]
+mod typed_tests;
 pub mod types;
 mod units;
