@@ -135,10 +135,7 @@ fn run_in(alloc: Global, matches: &ArgMatches<'_>) -> Result<Option<RunWords>, A
     }))
 }
 
-fn replay_in(
-    alloc: Global,
-    matches: &ArgMatches<'_>,
-) -> Result<Option<ReplayWords>, AllocError>
+fn replay_in(alloc: Global, matches: &ArgMatches<'_>) -> Result<Option<ReplayWords>, AllocError>
     ensures found { IfOk result (λ found. IfSome found (IsReplayOf (rows_of (found_of matches.now)))) }
     ensures none { IfOk result (λ found. IfNone found ((replay : ReplayWords) → IsReplayOf (rows_of (found_of matches.now)) replay → ⊥)) }
 {

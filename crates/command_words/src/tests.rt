@@ -357,10 +357,12 @@ fn replays() -> &'static [Replayed] {
 
 fn is_replay(alloc: Global, line: &[&str], mode: Option<&str>) -> Result<bool, AllocError> {
     match (read_words(alloc, &words_of(alloc, line)?)?, mode) {
-        (Some(Asked::Replay(replay)), Some(mode)) => Ok(is(Some(&replay.oil), "a.oil")
-            && is(Some(&replay.c), "a.c")
-            && is(Some(&replay.schedule), "s")
-            && is(replay.mode.as_ref(), mode)),
+        (Some(Asked::Replay(replay)), Some(mode)) => Ok(
+            is(Some(&replay.oil), "a.oil")
+                && is(Some(&replay.c), "a.c")
+                && is(Some(&replay.schedule), "s")
+                && is(replay.mode.as_ref(), mode),
+        ),
         (Some(Asked::Replay(_)), None) => Ok(false),
         (_, expected) => Ok(expected.is_none()),
     }

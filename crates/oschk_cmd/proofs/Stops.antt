@@ -1,5 +1,5 @@
 -- The refusal of the last stage is that of the texts.
-use Rattle.std.proofs.Common.{◌≡◌, ℕ, List, Option}
+use Rattle.std.proofs.Common.{ℕ, List, Option}
 use Rattle.app_model.specs.declared.app.App.{App}
 use Rattle.c_lex.specs.PlainTokens.{PlainTokens}
 use Rattle.oil_text.specs.declared.tree.OilTree.{OilTree}

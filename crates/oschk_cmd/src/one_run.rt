@@ -36,12 +36,7 @@ pub fn steps(alloc: Global, count: usize) -> Result<Choices, AllocError>
 
 /// Up to so many steps from the start, each of who runs then. It ends sooner where a step fails or nobody can go on. If it has no failure,
 /// then no permitted schedule of so many events without arrivals fails, since each is a prefix of this run.
-pub fn one_run(
-    alloc: Global,
-    app: &App,
-    code: &Code,
-    turns: u16,
-) -> Result<Replayed, AllocError>
+pub fn one_run(alloc: Global, app: &App, code: &Code, turns: u16) -> Result<Replayed, AllocError>
     requires order { IsInOrder app.now }
     requires fit { Fits app.now code.now }
     requires no_input { TakesNoInput code.now }

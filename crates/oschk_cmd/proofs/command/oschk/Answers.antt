@@ -34,7 +34,7 @@ returns-then-is_fault-clause-answered g c =
           (λ (report : PlainReport). printing.Prints (g.S.Sink.state c.args.out.now) (g.S.Sink.state c.write_report.new.out) (report_text report) c.write_report.result)
           c.report_of.ensures
           c.write_report.ensures;
-      status = 
+      status =
           c.status_of-then-is_fault.ensures
           ∙ (fault_status c.reply-reply.result c.in-Err.field-0 (sym c.is_fault.ensures ∙ c.if-is_fault.true)
           ∙ ap (status_after c.reply-reply.result) (sym c.in-Err.is));
@@ -51,7 +51,7 @@ returns-clause-answered g c =
           (λ (report : PlainReport). printing.Prints (g.S.Sink.state c.args.out.now) (g.S.Sink.state c.write_report.new.out) (report_text report) c.write_report.result)
           c.report_of.ensures
           c.write_report.ensures;
-      status = 
+      status =
           write_status c.reply-reply.result c.in-Err.field-0 (sym c.is_fault.ensures ∙ c.if-is_fault.false)
           ∙ ap (status_after c.reply-reply.result) (sym c.in-Err.is);
     }
