@@ -3,7 +3,7 @@ use Rattle.std.proofs.Common.{arith, inl, inr, ◌≡◌, ◌≢◌, ℕ, Bool, 
 use Rattle.clap.specs.declared.error.Error.{Error}
 use Rattle.clap.specs.declared.error.kind.ErrorKind.TheVariants.{OutOfMemory}
 use Rattle.clap.specs.Words.{App, Row, Kinds, HasKind, kind_of, fault_of, matches_of, is_simple, is_simple_and_free}
-use Rattle.command_words.specs.Lines.{PlainLine, app_for, is_plain, faults_for, rows_for, run_line, check_line}
+use Rattle.command_words.specs.Lines.{PlainLine, app_for, is_plain, faults_for, rows_for, run_line, replay_line, check_line}
 
 both : (a b : Bool) → a && b ≡ true → (a ≡ true) × (b ≡ true)
 both true true is = (refl, refl)
@@ -30,6 +30,10 @@ refused error (k ∷ ks) has other is = let bad : suc (length ks) ≡ 0 = ap len
 pub run_is_plain : is_plain run_line ≡ true
 unfolding is_plain
 run_is_plain = refl
+
+pub replay_is_plain : is_plain replay_line ≡ true
+unfolding is_plain
+replay_is_plain = refl
 
 pub check_is_plain : is_plain check_line ≡ true
 unfolding is_plain

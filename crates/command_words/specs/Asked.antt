@@ -3,8 +3,9 @@ use Rattle.std.specs.Prelude.{◌≡◌, ◌≢◌, ℕ, ◌≤◌, ◌^◌, Lis
 use Rattle.clap.specs.Words.{Row, first_of}
 use Rattle.command_words.specs.declared.asked.Asked.{Asked}
 use Rattle.command_words.specs.declared.asked.Asked.TheVariants as asked
+use Rattle.command_words.specs.declared.asked.ReplayWords.{ReplayWords}
 use Rattle.command_words.specs.declared.asked.RunWords.{RunWords}
-use Rattle.command_words.specs.Lines.{PlainLine, run_line, check_line, faults_for, rows_for}
+use Rattle.command_words.specs.Lines.{PlainLine, run_line, replay_line, check_line, faults_for, rows_for}
 
 -- `clap` takes the words, which are texts, by this line, whose name comes first
 pub record AreOf (line : PlainLine) (words : List (List ℕ)) : Type 0 where
@@ -53,6 +54,18 @@ pub record IsRun (words : List (List ℕ)) (run : RunWords) : Type 0 where
   pub of : AreOf run_line words
   pub is : IsRunOf (rows_for run_line words) run
 
+-- what was found is that of this replay: the names of its three texts, and the mode, if one is named
+pub record IsReplayOf (rows : List Row) (replay : ReplayWords) : Type 0 where
+  pub oil : first_of (codes "APP.oil") rows ≡ Some replay.oil
+  pub c : first_of (codes "APP.c") rows ≡ Some replay.c
+  pub schedule : first_of (codes "SCHEDULE") rows ≡ Some replay.schedule
+  pub mode : first_of (codes "mode") rows ≡ replay.mode
+
+-- the words are those of this replay
+pub record IsReplay (words : List (List ℕ)) (replay : ReplayWords) : Type 0 where
+  pub of : AreOf replay_line words
+  pub is : IsReplayOf (rows_for replay_line words) replay
+
 -- the words are those of a check of the certificate of this name
 pub record IsCheck (words : List (List ℕ)) (cert : List ℕ) : Type 0 where
   pub of : AreOf check_line words
@@ -61,6 +74,7 @@ pub record IsCheck (words : List (List ℕ)) (cert : List ℕ) : Type 0 where
 -- the words ask for this
 abbrev pub IsAsked : List (List ℕ) → Asked → Type 0
 IsAsked words (asked.Run run) = IsRun words run
+IsAsked words (asked.Replay replay) = IsReplay words replay
 IsAsked words (asked.Check cert) = IsCheck words cert
 
 -- the words are those of no command

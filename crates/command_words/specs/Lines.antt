@@ -5,7 +5,7 @@ use Rattle.clap.specs.Words.{App, Row, Rule, Kinds, new_app, new_rule, with_rule
 use Rattle.clap.specs.declared.builder.ArgAction.TheVariants.{Set}
 use Rattle.command_words.specs.declared.line.Line.{Line}
 use Rattle.command_words.specs.declared.line.Order.{Order}
-use Rattle.command_words.specs.declared.line.Order.TheVariants.{Run, Check}
+use Rattle.command_words.specs.declared.line.Order.TheVariants.{Run, Replay, Check}
 use Rattle.command_words.specs.declared.line.Kind.{Kind}
 use Rattle.command_words.specs.declared.line.Kind.TheVariants.{Positional, Required, Optional}
 
@@ -38,12 +38,22 @@ run_line =
       optional = codes "budget" ∷ codes "mode" ∷ [];
     }
 
+abbrev pub replay_line : PlainLine
+replay_line =
+    record {
+      name = codes "replay";
+      positionals = codes "APP.oil" ∷ codes "APP.c" ∷ codes "SCHEDULE" ∷ [];
+      required = [];
+      optional = codes "mode" ∷ [];
+    }
+
 abbrev pub check_line : PlainLine
 check_line = record { name = codes "check"; positionals = codes "CERT" ∷ []; required = []; optional = [] }
 
 -- the table of the commands
 abbrev pub line_of : Order → PlainLine
 line_of Run = run_line
+line_of Replay = replay_line
 line_of Check = check_line
 
 -- the argument takes one text; it is required, and without a name of its own where it is a positional

@@ -1,7 +1,7 @@
 // What the words of a command line ask for.
 ghost use Rattle.std.specs.Prelude.{◌≡◌, ℕ, List, All, IsUtf8, Some, Option, IfOk, IfSome, IfNone, slice_get, codes, option_map};
 ghost use Rattle.clap.specs.Words.{found_of, rows_of, first_of};
-ghost use Rattle.command_words.specs.Asked.{AreNames, AreBounds, IsBudget, IsRunOf, IsRun, IsCheck, IsAsked, AreNone};
+ghost use Rattle.command_words.specs.Asked.{AreNames, AreBounds, IsBudget, IsRunOf, IsRun, IsReplayOf, IsReplay, IsCheck, IsAsked, AreNone};
 ghost use Rattle.command_words.specs.Lines.{plain_texts};
 
 use crate::line::{Line, Order, line_of};
@@ -25,10 +25,20 @@ pub struct RunWords {
     pub mode: Option<Text>,
 }
 
-/// A run, or a check of the certificate of this name.
+/// What the words of `replay` ask for: the names of both texts and of the schedule, and the application mode, if one is named.
+#[derive(Drop)]
+pub struct ReplayWords {
+    pub oil: Text,
+    pub c: Text,
+    pub schedule: Text,
+    pub mode: Option<Text>,
+}
+
+/// A run, the replay of a schedule, or a check of the certificate of this name.
 #[derive(Drop)]
 pub enum Asked {
     Run(RunWords),
+    Replay(ReplayWords),
     Check(Text),
 }
 
@@ -125,6 +135,27 @@ fn run_in(alloc: Global, matches: &ArgMatches<'_>) -> Result<Option<RunWords>, A
     }))
 }
 
+fn replay_in(alloc: Global, matches: &ArgMatches<'_>) -> Result<Option<ReplayWords>, AllocError>
+    ensures found { IfOk result (λ found. IfSome found (IsReplayOf (rows_of (found_of matches.now)))) }
+    ensures none { IfOk result (λ found. IfNone found ((replay : ReplayWords) → IsReplayOf (rows_of (found_of matches.now)) replay → ⊥)) }
+{
+    let Some(oil) = value(matches, "APP.oil") else {
+        return Ok(None);
+    };
+    let Some(c) = value(matches, "APP.c") else {
+        return Ok(None);
+    };
+    let Some(schedule) = value(matches, "SCHEDULE") else {
+        return Ok(None);
+    };
+    Ok(Some(ReplayWords {
+        oil: own(alloc, oil)?,
+        c: own(alloc, c)?,
+        schedule: own(alloc, schedule)?,
+        mode: own_if_given(alloc, value(matches, "mode"))?,
+    }))
+}
+
 // What texts ask for whose first is `run`.
 fn run_asked<'a>(alloc: Global, texts: &'a [&'a str]) -> Result<Option<Asked>, AllocError>
     requires text { All IsUtf8 (plain_texts texts.now) }
@@ -137,6 +168,22 @@ fn run_asked<'a>(alloc: Global, texts: &'a [&'a str]) -> Result<Option<Asked>, A
     };
     match run_in(alloc, &matches)? {
         Some(run) => Ok(Some(Asked::Run(run))),
+        None => Ok(None),
+    }
+}
+
+// What texts ask for whose first is `replay`.
+fn replay_asked<'a>(alloc: Global, texts: &'a [&'a str]) -> Result<Option<Asked>, AllocError>
+    requires text { All IsUtf8 (plain_texts texts.now) }
+    requires name { slice_get (plain_texts texts.now) 0 ≡ Some (codes "replay") }
+    ensures found { IfOk result (λ found. IfSome found (IsAsked (plain_texts texts.now))) }
+    ensures none { IfOk result (λ found. IfNone found ((replay : ReplayWords) → IsReplay (plain_texts texts.now) replay → ⊥)) }
+{
+    let Some(matches) = matches_for(alloc, line_of(Order::Replay), texts)? else {
+        return Ok(None);
+    };
+    match replay_in(alloc, &matches)? {
+        Some(replay) => Ok(Some(Asked::Replay(replay))),
         None => Ok(None),
     }
 }
@@ -168,6 +215,7 @@ fn texts_asked<'a>(alloc: Global, texts: &'a [&'a str]) -> Result<Option<Asked>,
     };
     match *name {
         "run" => run_asked(alloc, texts),
+        "replay" => replay_asked(alloc, texts),
         "check" => check_asked(alloc, texts),
         _ => Ok(None),
     }

@@ -19,6 +19,7 @@ pub struct Line<'a> {
 #[derive(Clone, Copy, PartialEq, Eq, Debug)]
 pub enum Order {
     Run,
+    Replay,
     Check,
 }
 
@@ -40,6 +41,12 @@ pub fn line_of<'a>(order: Order) -> Line<'a>
             positionals: &["APP.oil", "APP.c"],
             required: &["turns", "arrivals", "cert"],
             optional: &["budget", "mode"],
+        },
+        Order::Replay => Line {
+            name: "replay",
+            positionals: &["APP.oil", "APP.c", "SCHEDULE"],
+            required: &[],
+            optional: &["mode"],
         },
         Order::Check => Line {
             name: "check",

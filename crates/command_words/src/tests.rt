@@ -339,6 +339,43 @@ fn takes_the_line_of_a_check(rt: HostRuntime) -> Result<(), Fail> {
     Ok(())
 }
 
+// A line of words, and the mode of the replay that it asks for, empty where none is named; none where it asks for no replay.
+type Replayed = (&'static [&'static str], Option<&'static str>);
+
+const REPLAYS: [Replayed; 6] = [
+    (&["replay", "a.oil", "a.c", "s"], Some("")),
+    (&["replay", "--mode", "M", "a.oil", "a.c", "s"], Some("M")),
+    (&["replay", "a.oil", "a.c"], None),
+    (&["replay", "a.oil", "a.c", "s", "t"], None),
+    (&["replay", "a.oil", "a.c", "s", "--turns=8"], None),
+    (&["check", "s"], None),
+];
+
+fn replays() -> &'static [Replayed] {
+    &REPLAYS
+}
+
+fn is_replay(alloc: Global, line: &[&str], mode: Option<&str>) -> Result<bool, AllocError> {
+    match (read_words(alloc, &words_of(alloc, line)?)?, mode) {
+        (Some(Asked::Replay(replay)), Some(mode)) => Ok(
+            is(Some(&replay.oil), "a.oil")
+                && is(Some(&replay.c), "a.c")
+                && is(Some(&replay.schedule), "s")
+                && is(replay.mode.as_ref(), mode),
+        ),
+        (Some(Asked::Replay(_)), None) => Ok(false),
+        (_, expected) => Ok(expected.is_none()),
+    }
+}
+
+#[test]
+fn takes_exactly_the_lines_of_a_replay(rt: HostRuntime) -> Result<(), Fail> {
+    for (line, mode) in replays() {
+        assert!(rt; is_replay(rt.alloc(), line, *mode)?);
+    }
+    Ok(())
+}
+
 #[test]
 fn refuses_a_word_that_is_no_text(rt: HostRuntime) -> Result<(), Fail> {
     let mut words = words_of(rt.alloc(), &["check"])?;

@@ -2,6 +2,8 @@
 #![tactic(auto)]
 
 #[cfg(test)]
+mod replay_tests;
+#[cfg(test)]
 mod solver_tests;
 #[cfg(test)]
 mod tests;

@@ -7,28 +7,28 @@ use std::alloc::{AllocError, Global};
 use std::test::Fail;
 
 // A text in parts.
-type Parts = &'static [&'static str];
+pub type Parts = &'static [&'static str];
 
-const HEAD: &str =
+pub const HEAD: &str =
     "OIL_VERSION = \"2.5\";\nCPU c {\nOS o { STATUS = EXTENDED; };\nAPPMODE M { };\n";
 
-const TASK: &str =
+pub const TASK: &str =
     "TASK T { PRIORITY = 1; SCHEDULE = FULL; ACTIVATION = 1; AUTOSTART = TRUE { APPMODE = M; }; };\n";
 
 const LATER: &str =
     "TASK H { PRIORITY = 2; SCHEDULE = FULL; ACTIVATION = 1; AUTOSTART = FALSE; };\n";
 
-const TAIL: &str = "};\n";
+pub const TAIL: &str = "};\n";
 
-const OIL: Parts = &[HEAD, TASK, TAIL];
+pub const OIL: Parts = &[HEAD, TASK, TAIL];
 
-const HOLDS: Parts = &[
+pub const HOLDS: Parts = &[
     "uint8_t x;\nTASK(T) {\n  x = 1;\n",
     "  assert(x == 1);\n",
     "  TerminateTask();\n}\n",
 ];
 
-const FAILS: Parts = &[
+pub const FAILS: Parts = &[
     "uint8_t x;\nTASK(T) {\n  x = 1;\n",
     "  assert(x == 2);\n",
     "  TerminateTask();\n}\n",
@@ -59,13 +59,14 @@ const GOAL: &str =
 
 // What the program is called with: its words, its files, and the call of the desk and that of the output that fails, 0 for none.
 #[derive(Clone, Copy)]
-struct Case {
-    words: &'static str,
-    oil: Parts,
-    c: Parts,
-    cert: Parts,
-    desk_fails_at: u64,
-    out_fails_at: u64,
+pub struct Case {
+    pub words: &'static str,
+    pub oil: Parts,
+    pub c: Parts,
+    pub cert: Parts,
+    pub schedule: Parts,
+    pub desk_fails_at: u64,
+    pub out_fails_at: u64,
 }
 
 fn run(words: &'static str, oil: Parts, c: Parts) -> Case {
@@ -74,6 +75,7 @@ fn run(words: &'static str, oil: Parts, c: Parts) -> Case {
         oil,
         c,
         cert: &[],
+        schedule: &[],
         desk_fails_at: 0,
         out_fails_at: 0,
     }
@@ -85,6 +87,20 @@ fn check(cert: Parts) -> Case {
         oil: &[],
         c: &[],
         cert,
+        schedule: &[],
+        desk_fails_at: 0,
+        out_fails_at: 0,
+    }
+}
+
+/// The words of a replay with these texts.
+pub fn replay(words: &'static str, oil: Parts, c: Parts, schedule: Parts) -> Case {
+    Case {
+        words,
+        oil,
+        c,
+        cert: &[],
+        schedule,
         desk_fails_at: 0,
         out_fails_at: 0,
     }
@@ -96,6 +112,7 @@ fn with_faults(desk_fails_at: u64, out_fails_at: u64) -> Case {
         oil: OIL,
         c: HOLDS,
         cert: &[],
+        schedule: &[],
         desk_fails_at,
         out_fails_at,
     }
@@ -103,9 +120,9 @@ fn with_faults(desk_fails_at: u64, out_fails_at: u64) -> Case {
 
 // The number that the program ends with, and what it wrote.
 #[derive(Drop)]
-struct Ended {
-    number: u8,
-    text: Text,
+pub struct Ended {
+    pub number: u8,
+    pub text: Text,
 }
 
 fn text(alloc: Global, parts: &[&str]) -> Result<Text, AllocError> {
@@ -137,6 +154,7 @@ fn desk_of(alloc: Global, case: &Case) -> Result<MemDesk, AllocError> {
     put(alloc, &mut desk, "app.oil", case.oil)?;
     put(alloc, &mut desk, "app.c", case.c)?;
     put(alloc, &mut desk, "app.cert", case.cert)?;
+    put(alloc, &mut desk, "app.sched", case.schedule)?;
     desk.fail_at(case.desk_fails_at)?;
     Ok(desk)
 }
@@ -160,7 +178,7 @@ fn called(
     })
 }
 
-fn result_of(alloc: Global, case: &Case) -> Result<Ended, AllocError> {
+pub fn result_of(alloc: Global, case: &Case) -> Result<Ended, AllocError> {
     let words = words_of(alloc, case.words)?;
     let desk = desk_of(alloc, case)?;
     let out = out_of(alloc, case)?;
@@ -311,7 +329,7 @@ fn options_stand_before_between_and_after_the_names(rt: HostRuntime) -> Result<(
 // An OIL text, a C text, and the line that refuses them.
 type Refused = (Parts, Parts, &'static str);
 
-const REFUSED: [Refused; 22] = [
+const REFUSED: [Refused; 24] = [
     (&[], &[], "refused OIL END at 1:1\n"),
     (
         &["OIL_VERSION = \"2.5\";\nCPU c {\nTASK T { PRIORITY = ; };\n};\n"],
@@ -401,16 +419,33 @@ const REFUSED: [Refused; 22] = [
         "refused FORM C at 2:9\n",
     ),
     (OIL, &["uint8_t T;\n"], "refused FORM C at 1:9\n"),
-    (OIL, &["uint8_t x;\nTASK(U) {\n"], "refused FORM C at 2:6\n"),
     (
         OIL,
-        &["uint8_t x;\nTASK(T) {\n  y = 1;\n"],
+        &["uint8_t x;\nTASK(U) {\n  TerminateTask();\n}\n"],
+        "refused FORM C at 2:6\n",
+    ),
+    (
+        OIL,
+        &["uint8_t x;\nTASK(U) {\n  x = 1;;\n  x + 1;\n"],
+        "refused C TOKEN at 4:5\n",
+    ),
+    (
+        OIL,
+        &[
+            "int x = 1; ;",
+            "((((((((((((((((((((((((((((((((((((((((((((((((((((((((((((((((((",
+        ],
+        "refused C DEPTH at 1:77\n",
+    ),
+    (
+        OIL,
+        &["uint8_t x;\nTASK(T) {\n  y = 1;\n  TerminateTask();\n}\n"],
         "refused FORM C at 3:3\n",
     ),
     (
         OIL,
         &["uint8_t x;\nTASK(T) {\n  x = 1;\n"],
-        "refused FORM C at 4:1\n",
+        "refused C END at 4:1\n",
     ),
     (
         OIL,
@@ -658,11 +693,12 @@ fn blanks(alloc: Global, count: u32) -> Result<Text, AllocError> {
     Ok(blanks)
 }
 
-fn ended_with_blanks(alloc: Global, count: u32) -> Result<Ended, AllocError> {
-    let case = run(RUN, OIL, HOLDS);
+/// What a replay ends with where the file of this name has so many blanks.
+fn ended_with_blanks(alloc: Global, name: &str, count: u32) -> Result<Ended, AllocError> {
+    let case = replay("replay app.oil app.c app.sched", OIL, HOLDS, &[]);
     let words = words_of(alloc, case.words)?;
     let mut desk = desk_of(alloc, &case)?;
-    desk.put(&text(alloc, &["app.oil"])?, &blanks(alloc, count)?)?;
+    desk.put(&text(alloc, &[name])?, &blanks(alloc, count)?)?;
     let out = out_of(alloc, &case)?;
     called(alloc, &words, desk, out)
 }
@@ -670,13 +706,16 @@ fn ended_with_blanks(alloc: Global, count: u32) -> Result<Ended, AllocError> {
 #[test]
 fn a_text_may_have_262144_bytes(rt: HostRuntime) -> Result<(), Fail> {
     let alloc = rt.alloc();
-    for (count, report) in [
-        (262_144, "refused OIL END at 1:262145\n"),
-        (262_145, "refused LENGTH OIL of 262144\n"),
+    for (name, count, report) in [
+        ("app.oil", 262_144, "refused OIL END at 1:262145\n"),
+        ("app.oil", 262_145, "refused LENGTH OIL of 262144\n"),
+        ("app.c", 262_145, "refused LENGTH C of 262144\n"),
+        ("app.sched", 262_144, "refused SCHEDULE LINE at 1:1\n"),
+        ("app.sched", 262_145, "refused LENGTH SCHEDULE of 262144\n"),
     ] {
-        let ended = ended_with_blanks(alloc, count)?;
-        assert_eq!(rt; ended.number, 3, "{count}");
-        assert_eq!(rt; ended.text.as_bytes(), report.as_bytes(), "{count}");
+        let ended = ended_with_blanks(alloc, name, count)?;
+        assert_eq!(rt; ended.number, 3, "{name} {count}");
+        assert_eq!(rt; ended.text.as_bytes(), report.as_bytes(), "{name} {count}");
     }
     Ok(())
 }

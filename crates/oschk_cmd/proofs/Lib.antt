@@ -1,4 +1,3 @@
-pub mod Lines
 pub mod OnlyRun
 pub mod Runs
 pub mod Stops

@@ -1,197 +1,323 @@
--- What follows of the texts from how a command ended.
-use Rattle.std.proofs.Common.{◌≡◌, ℕ, Bool, true, false, List, Option, Some, None, is_some, Result, Ok, Err, inl, inr, refl, sym, ap, subst, ◌∙◌}
-use Rattle.std.specs.Prelude.{◌⊎◌}
+-- What the status of a command says.
+use Rattle.std.proofs.Common.{◌≡◌, ◌⊎◌, ℕ, List, Bool, true, false, Option, Some, None, is_some, Result, Ok, Err, inl, inr, refl, sym, ap, ◌∙◌}
 use Rattle.chk_base.specs.Desk.{DeskState}
 use Rattle.chk_base.specs.Sink.{SinkState}
-use Rattle.chk_base.specs.declared.place.Place.{Place}
-use Rattle.chk_base.specs.declared.sink.Failed.{Failed}
-use Rattle.command_words.specs.Asked.{IsAsked, IsCheck, IsRun}
+use Rattle.command_words.specs.Asked.{AreNone, IsAsked, IsCheck, IsReplay, IsRun}
 use Rattle.command_words.specs.declared.asked.Asked.{Asked}
 use Rattle.command_words.specs.declared.asked.Asked.TheVariants as asked
+use Rattle.command_words.specs.declared.asked.ReplayWords.{ReplayWords}
 use Rattle.command_words.specs.declared.asked.RunWords.{RunWords}
+use Rattle.report.specs.declared.reports.CertReport.{CertReport}
+use Rattle.report.specs.declared.reports.CertReport.TheVariants as cert
+use Rattle.report.specs.declared.reports.ReplayFault.{ReplayFault}
+use Rattle.report.specs.declared.reports.ReplayFault.TheVariants as fault
+use Rattle.report.specs.declared.reports.Replayed.{Replayed}
+use Rattle.report.specs.declared.reports.Verdict.{Verdict}
+use Rattle.report.specs.declared.reports.Verdict.TheVariants as verdict
+use Rattle.report.specs.declared.reports.WriteFault.{WriteFault}
 use Rattle.step_ir.specs.declared.event.Failure.{Failure}
-use Rattle.oschk_cmd.specs.declared.reply.Ending.{Ending}
-use Rattle.oschk_cmd.specs.declared.reply.Ending.TheVariants as ending
+use Rattle.oschk_cmd.specs.declared.reply.Ran.{Ran}
 use Rattle.oschk_cmd.specs.declared.reply.Reply.{Reply}
 use Rattle.oschk_cmd.specs.declared.reply.Reply.TheVariants as reply
+use Rattle.oschk_cmd.specs.declared.reply.Rerun.{Rerun}
 use Rattle.oschk_cmd.specs.declared.status.Status.{Status}
 use Rattle.oschk_cmd.specs.declared.status.Status.TheVariants as status
-use Rattle.oschk_cmd.specs.Answers.{IsAnswered, IsReply, IsReplyTo}
-use Rattle.oschk_cmd.specs.Checks.{ChecksCert, HasBadCert, HasGoodCert, IsCertTold, IsFetchedCert, IsLongCert, answer_ending}
+use Rattle.oschk_cmd.specs.Answers.{HasFetchFault, HasReadFault, IsAnswered, IsReply, IsReplyTo}
+use Rattle.oschk_cmd.specs.Checks.{HasBadCert, HasGoodCert, IsFetchedCert}
 use Rattle.oschk_cmd.specs.Headline.{HasFailed, Holds}
-use Rattle.oschk_cmd.specs.Replies.{ending_status, status_after}
-use Rattle.oschk_cmd.specs.Runs.{HasFile, IsRunTold, verdict}
-use Rattle.proof_check.specs.Certs.{IsCertOf}
-use Rattle.proof_check.specs.Checks.{answer_of}
-use Rattle.proof_check.specs.declared.cert.Cert.{Cert}
-use Rattle.proof_check.specs.declared.check.CertAnswer.{CertAnswer}
-use Rattle.proof_check.specs.declared.check.CertAnswer.TheVariants as answers
+use Rattle.oschk_cmd.specs.Replays.{IsFetchedReplay, Replays}
+use Rattle.oschk_cmd.specs.Replies.{check_status, failure_status, is_fault, reply_status, replay_status, status_after, verdict_status}
+use Rattle.oschk_cmd.specs.Runs.{IsFetchedRun, verdict_of}
 
--- a text was told, with this ending
-record IsTold (answer : Reply) (end : Ending) : Type 0 where
-  text : List ℕ
-  is : answer ≡ reply.Told text end
+-- a status that isn't that of a failed write
+abbrev is_of_reply : Status → Bool
+is_of_reply status.WriteFault = false
+is_of_reply _ = true
 
--- a status that only a text has that was told and written
-abbrev is_told_status : Status → Bool
-is_told_status status.Good = true
-is_told_status status.Fails = true
-is_told_status status.NotPermitted = true
-is_told_status _ = false
+unwritten : (ended : Status) → is_of_reply ended ≡ true → ended ≡ status.WriteFault → ⊥
+unwritten ended other is = let no : ◌≡◌ {A = Bool} false true = sym (ap is_of_reply is) ∙ other in cc
 
--- where a command ends so, such a text was told
-told_after : (answer : Reply) (result : Result (Unit {0}) Failed) → is_told_status (status_after answer result) ≡ true → (end : Ending) × IsTold answer end × (status_after answer result ≡ ending_status end)
-told_after (reply.Told text end) (Ok u) told = (end, record { text = text; is = refl }, refl)
-told_after (reply.Told text end) (Err e) told = absurd cc
-told_after reply.Usage (Ok u) told = absurd cc
-told_after reply.Usage (Err e) told = absurd cc
-told_after reply.ReadFault (Ok u) told = absurd cc
-told_after reply.ReadFault (Err e) told = absurd cc
-told_after reply.OutOfMemory (Ok u) told = absurd cc
-told_after reply.OutOfMemory (Err e) told = absurd cc
+-- where a command ends otherwise, it ends as its reply says
+ends_as : (answer : Reply) (result : Result (Unit {0}) WriteFault) (ended : Status) → is_of_reply ended ≡ true → ended ≡ status_after answer result → reply_status answer ≡ ended
+ends_as answer (Ok u) ended other is = sym is
+ends_as reply.Usage (Err e) ended other is = sym is
+ends_as reply.ReadFault (Err e) ended other is = sym is
+ends_as reply.OutOfMemory (Err e) ended other is = sym is
+ends_as (reply.Refused refusal) (Err e) ended other is = absurd (unwritten ended other is)
+ends_as (reply.Ran ran) (Err e) ended other is = absurd (unwritten ended other is)
+ends_as (reply.Rerun rerun) (Err e) ended other is = absurd (unwritten ended other is)
+ends_as (reply.Checked lines answered) (Err e) ended other is = absurd (unwritten ended other is)
 
--- an ending has one status
-same_ending : (end other : Ending) → ending_status end ≡ ending_status other → end ≡ other
-same_ending ending.Good ending.Good is = refl
-same_ending ending.Fails ending.Fails is = refl
-same_ending ending.Refused ending.Refused is = refl
-same_ending ending.NotPermitted ending.NotPermitted is = refl
-same_ending ending.Good ending.Fails is = absurd cc
-same_ending ending.Good ending.Refused is = absurd cc
-same_ending ending.Good ending.NotPermitted is = absurd cc
-same_ending ending.Fails ending.Good is = absurd cc
-same_ending ending.Fails ending.Refused is = absurd cc
-same_ending ending.Fails ending.NotPermitted is = absurd cc
-same_ending ending.Refused ending.Good is = absurd cc
-same_ending ending.Refused ending.Fails is = absurd cc
-same_ending ending.Refused ending.NotPermitted is = absurd cc
-same_ending ending.NotPermitted ending.Good is = absurd cc
-same_ending ending.NotPermitted ending.Fails is = absurd cc
-same_ending ending.NotPermitted ending.Refused is = absurd cc
+-- ---- the statuses of a run and of a check
 
-told_with : (end : Ending) → is_told_status (ending_status end) ≡ true → (answer : Reply) (result : Result (Unit {0}) Failed) → ending_status end ≡ status_after answer result → IsTold answer end
-told_with end known answer result is =
-    let found = told_after answer result (ap is_told_status (sym is) ∙ known) in
-    subst (IsTold answer) (same_ending found.0 end (sym found.2 ∙ sym is)) found.1
+unfailed : (failure : Option Failure) → verdict_status (verdict_of failure) ≡ status.Good → failure ≡ None
+unfailed None is = refl
+unfailed (Some failure) is = absurd cc
 
-unfailed : (failed : Bool) → ending.Good ≡ verdict failed → failed ≡ false
-unfailed true is = absurd cc
-unfailed false is = refl
+failing : (failure : Option Failure) → verdict_status (verdict_of failure) ≡ status.Fails → is_some failure ≡ true
+failing None is = absurd cc
+failing (Some failure) is = refl
 
-failing : (failed : Bool) → ending.Fails ≡ verdict failed → failed ≡ true
-failing true is = refl
-failing false is = absurd cc
+-- a run ends in no other way
+abbrev is_of_run : Status → Bool
+is_of_run status.Good = true
+is_of_run status.Fails = true
+is_of_run _ = false
 
-none_found : (found : Option (Failure × Place)) → is_some found ≡ false → found ≡ None
-none_found None is = refl
-none_found (Some x) is = absurd cc
+run_ends : (failure : Option Failure) → is_of_run (verdict_status (verdict_of failure)) ≡ true
+run_ends None = refl
+run_ends (Some failure) = refl
+
+-- and a check in these
+abbrev is_of_check : Status → Bool
+is_of_check status.Good = true
+is_of_check status.NotPermitted = true
+is_of_check _ = false
+
+check_ends : (answered : CertReport) → is_of_check (check_status answered) ≡ true
+check_ends (cert.Good v) = refl
+check_ends (cert.BadLine number) = refl
+check_ends cert.BadVerdict = refl
+
+-- no run, replay or check ends as words, files or writes that fail do
+abbrev is_told : Status → Bool
+is_told status.Usage = false
+is_told status.ReadFault = false
+is_told status.WriteFault = false
+is_told _ = true
+
+run_told : (v : Verdict) → is_told (verdict_status v) ≡ true
+run_told verdict.Holds = refl
+run_told verdict.Fails = refl
+run_told verdict.Undecided = refl
+
+replay_told : (result : Result Replayed ReplayFault) → is_told (replay_status result) ≡ true
+replay_told (Ok replayed) = told replayed.failure
+  where
+    told : (failure : Option Failure) → is_told (failure_status failure) ≡ true
+    told None = refl
+    told (Some f) = refl
+replay_told (Err (fault.NotPermitted step state events)) = refl
+replay_told (Err fault.Memory) = refl
+
+check_told : (answered : CertReport) → is_told (check_status answered) ≡ true
+check_told (cert.Good v) = refl
+check_told (cert.BadLine number) = refl
+check_told cert.BadVerdict = refl
+
+-- a replay decides
+abbrev is_decided : Status → Bool
+is_decided status.Undecided = false
+is_decided _ = true
+
+replay_decided : (result : Result Replayed ReplayFault) → is_decided (replay_status result) ≡ true
+replay_decided (Ok replayed) = decided replayed.failure
+  where
+    decided : (failure : Option Failure) → is_decided (failure_status failure) ≡ true
+    decided None = refl
+    decided (Some f) = refl
+replay_decided (Err (fault.NotPermitted step state events)) = refl
+replay_decided (Err fault.Memory) = refl
+
+differ : (test : Status → Bool) (some other : Status) → test some ≡ true → test other ≡ false → some ≡ other → ⊥
+differ test some other passes fails is = let bad : ◌≡◌ {A = Bool} true false = sym passes ∙ (ap test is ∙ fails) in cc
+
+-- ---- words that ask for nothing, and writes that fail
+
+pub none_end : (answer : Reply) (ended : Status) → ended ≡ reply_status answer → (answer ≡ reply.Usage) ⊎ (answer ≡ reply.OutOfMemory) → (ended ≡ status.Usage) ⊎ (ended ≡ status.Memory)
+none_end answer ended is (inl usage) = inl (is ∙ ap reply_status usage)
+none_end answer ended is (inr memory) = inr (is ∙ ap reply_status memory)
+
+pub none_written : (answer : Reply) → is_fault answer ≡ false → (answer ≡ reply.Usage) ⊎ (answer ≡ reply.OutOfMemory) → ⊥
+none_written answer other (inl usage) = let bad : ◌≡◌ {A = Bool} true false = sym (ap is_fault usage) ∙ other in cc
+none_written answer other (inr memory) = let bad : ◌≡◌ {A = Bool} true false = sym (ap is_fault memory) ∙ other in cc
+
+-- no reply ends as a write that fails
+pub replied : (answer : Reply) → reply_status answer ≡ status.WriteFault → ⊥
+replied reply.Usage ends = absurd cc
+replied reply.ReadFault ends = absurd cc
+replied reply.OutOfMemory ends = absurd cc
+replied (reply.Refused refusal) ends = absurd cc
+replied (reply.Ran ran) ends = differ is_told (verdict_status ran.verdict) status.WriteFault (run_told ran.verdict) refl ends
+replied (reply.Rerun rerun) ends = differ is_told (replay_status rerun.result) status.WriteFault (replay_told rerun.result) refl ends
+replied (reply.Checked lines answered) ends = differ is_told (check_status answered) status.WriteFault (check_told answered) refl ends
 
 module _ (words : List (List ℕ)) (before after : DeskState) where
   -- ---- runs
 
-  module _ (run : RunWords) (is_run : IsRun words run) (text : List ℕ) where
-    run_good : IsRunTold before run text ending.Good → Holds words before
-    run_good (inl long) = absurd (let no = long.end_is in cc)
-    run_good (inr (inl long)) = absurd (let no = long.end_is in cc)
-    run_good (inr (inr at)) =
-        let report = at.told in
+  module _ (run : RunWords) (is_run : IsRun words run) (ran : Ran) (at : IsFetchedRun before run ran) where
+    run_good : verdict_status ran.verdict ≡ status.Good → Holds words before
+    run_good ends =
         record {
-          app = report.app;
-          code = report.code;
+          app = ran.app;
+          code = ran.code;
           k = run.turns;
-          asks = record { run = run; is_run = is_run; bound = refl; oil = at.oil; c = at.c; has_oil = at.has_oil; has_c = at.has_c; prepared = report.prepared };
-          none = report.report.run_is.holds (none_found report.report.found (unfailed (is_some report.report.found) report.report.end_is));
+          asks = record { run = run; is_run = is_run; bound = refl; oil = at.oil; c = at.c; has_oil = at.texts.has_oil; has_c = at.texts.has_c; prepared = at.is.prepared };
+          none = at.is.by.run_is.holds (unfailed ran.replayed.failure (ap verdict_status (sym at.is.by.verdict_is) ∙ ends));
         }
 
-    run_failed : IsRunTold before run text ending.Fails → HasFailed words before
-    run_failed (inl long) = absurd (let no = long.end_is in cc)
-    run_failed (inr (inl long)) = absurd (let no = long.end_is in cc)
-    run_failed (inr (inr at)) =
-        let report = at.told in
+    run_failed : verdict_status ran.verdict ≡ status.Fails → HasFailed words before
+    run_failed ends =
         record {
-          app = report.app;
-          code = report.code;
+          app = ran.app;
+          code = ran.code;
           k = run.turns;
-          asks = record { run = run; is_run = is_run; bound = refl; oil = at.oil; c = at.c; has_oil = at.has_oil; has_c = at.has_c; prepared = report.prepared };
-          events = report.report.events;
-          schedule = report.report.run_is.schedule;
-          failed = report.report.run_is.fails ∙ failing (is_some report.report.found) report.report.end_is;
+          asks = record { run = run; is_run = is_run; bound = refl; oil = at.oil; c = at.c; has_oil = at.texts.has_oil; has_c = at.texts.has_c; prepared = at.is.prepared };
+          events = ran.replayed.events;
+          schedule = at.is.by.run_is.schedule;
+          failed = at.is.by.run_is.fails ∙ failing ran.replayed.failure (ap verdict_status (sym at.is.by.verdict_is) ∙ ends);
         }
 
-    run_permitted : IsRunTold before run text ending.NotPermitted → ⊥
-    run_permitted (inl long) = absurd (let no = long.end_is in cc)
-    run_permitted (inr (inl long)) = absurd (let no = long.end_is in cc)
-    run_permitted (inr (inr at)) = at.told
+    run_other : (ended : Status) → is_of_run ended ≡ false → verdict_status ran.verdict ≡ ended → ⊥
+    run_other ended other ends =
+        differ is_of_run (verdict_status (verdict_of ran.replayed.failure)) ended (run_ends ran.replayed.failure) other (ap verdict_status (sym at.is.by.verdict_is) ∙ ends)
 
   -- ---- checks
 
-  module _ (name : List ℕ) (is_check : IsCheck words name) (bytes : List ℕ) (has_bytes : HasFile before name bytes) (text : List ℕ) where
-    checks : (cert : Cert) → IsCertOf bytes cert → ChecksCert words before cert
-    checks cert cert_is = record { name = name; is_check = is_check; bytes = bytes; has_bytes = has_bytes; cert_is = cert_is }
+  module _ (name : List ℕ) (is_check : IsCheck words name) (lines : ℕ) (answered : CertReport) (at : IsFetchedCert before name lines answered) where
+    check_good : check_status answered ≡ status.Good → HasGoodCert words before
+    check_good ends =
+        record {
+          cert = at.checked.cert;
+          checks = record { name = name; is_check = is_check; bytes = at.bytes; has_bytes = at.has_bytes; cert_is = at.checked.cert_is };
+          good = ap check_status (sym at.checked.checked.answer_is) ∙ ends;
+          holds = at.checked.checked.holds;
+          fails = at.checked.checked.fails;
+        }
 
-    good_at : IsCertTold bytes text ending.Good → HasGoodCert words before
-    good_at (inl refused) = absurd (let no = refused.end_is in cc)
-    good_at (inr checked) =
-        record { cert = checked.cert; checks = checks checked.cert checked.cert_is; good = sym checked.checked.end_is; holds = checked.checked.holds; fails = checked.checked.fails }
+    check_bad : check_status answered ≡ status.NotPermitted → HasBadCert words before
+    check_bad ends =
+        record {
+          cert = at.checked.cert;
+          checks = record { name = name; is_check = is_check; bytes = at.bytes; has_bytes = at.has_bytes; cert_is = at.checked.cert_is };
+          bad = ap check_status (sym at.checked.checked.answer_is) ∙ ends;
+        }
 
-    bad_at : IsCertTold bytes text ending.NotPermitted → HasBadCert words before
-    bad_at (inl refused) = absurd (let no = refused.end_is in cc)
-    bad_at (inr checked) = record { cert = checked.cert; checks = checks checked.cert checked.cert_is; bad = sym checked.checked.end_is }
+  check_other : (answered : CertReport) (ended : Status) → is_of_check ended ≡ false → check_status answered ≡ ended → ⊥
+  check_other answered ended other ends = differ is_of_check (check_status answered) ended (check_ends answered) other ends
 
-    -- a check ends in no failure of a run
-    no_failure : (answer : CertAnswer) → ending.Fails ≡ answer_ending answer → ⊥
-    no_failure (answers.Good v) is = absurd cc
-    no_failure (answers.BadLine number) is = absurd cc
-    no_failure answers.BadVerdict is = absurd cc
+  -- ---- replays
 
-    failed_at : IsCertTold bytes text ending.Fails → ⊥
-    failed_at (inl refused) = absurd (let no = refused.end_is in cc)
-    failed_at (inr checked) = no_failure (answer_of checked.cert) checked.checked.end_is
-
-  check_good : (name : List ℕ) → IsCheck words name → (text : List ℕ) → IsLongCert before name text ending.Good ⊎ IsFetchedCert before name text ending.Good → HasGoodCert words before
-  check_good name is_check text (inl long) = absurd (let no = long.end_is in cc)
-  check_good name is_check text (inr at) = good_at name is_check at.bytes at.has_bytes text at.told
-
-  check_bad : (name : List ℕ) → IsCheck words name → (text : List ℕ) → IsLongCert before name text ending.NotPermitted ⊎ IsFetchedCert before name text ending.NotPermitted → HasBadCert words before
-  check_bad name is_check text (inl long) = absurd (let no = long.end_is in cc)
-  check_bad name is_check text (inr at) = bad_at name is_check at.bytes at.has_bytes text at.told
-
-  check_failed : (name : List ℕ) → IsCheck words name → (text : List ℕ) → IsLongCert before name text ending.Fails ⊎ IsFetchedCert before name text ending.Fails → ⊥
-  check_failed name is_check text (inl long) = absurd (let no = long.end_is in cc)
-  check_failed name is_check text (inr at) = failed_at name is_check at.bytes at.has_bytes text at.told
+  rerun_is : (ended : Status) (replay : ReplayWords) → IsReplay words replay → (rerun : Rerun) → IsFetchedReplay before replay rerun → replay_status rerun.result ≡ ended → Replays words before ended
+  rerun_is ended replay is_replay rerun fetched ends = record { replay = replay; is_replay = is_replay; rerun = rerun; fetched = fetched; ends = ends }
 
   -- ---- what was asked for
 
-  asked_good : (what : Asked) → IsAsked words what → (text : List ℕ) → IsReplyTo what before after (reply.Told text ending.Good) → Holds words before ⊎ HasGoodCert words before
-  asked_good (asked.Run run) is text told = inl (run_good run is text told)
-  asked_good (asked.Check name) is text told = inr (check_good name is text told)
+  ran_good : (what : Asked) → IsAsked words what → (ran : Ran) → IsReplyTo what before after (reply.Ran ran) → verdict_status ran.verdict ≡ status.Good → Holds words before
+  ran_good (asked.Run run) is ran why ends = run_good run is ran why ends
+  ran_good (asked.Replay replay) is ran why ends = absurd why
+  ran_good (asked.Check name) is ran why ends = absurd why
 
-  asked_failed : (what : Asked) → IsAsked words what → (text : List ℕ) → IsReplyTo what before after (reply.Told text ending.Fails) → HasFailed words before
-  asked_failed (asked.Run run) is text told = run_failed run is text told
-  asked_failed (asked.Check name) is text told = absurd (check_failed name is text told)
+  ran_failed : (what : Asked) → IsAsked words what → (ran : Ran) → IsReplyTo what before after (reply.Ran ran) → verdict_status ran.verdict ≡ status.Fails → HasFailed words before
+  ran_failed (asked.Run run) is ran why ends = run_failed run is ran why ends
+  ran_failed (asked.Replay replay) is ran why ends = absurd why
+  ran_failed (asked.Check name) is ran why ends = absurd why
 
-  asked_bad : (what : Asked) → IsAsked words what → (text : List ℕ) → IsReplyTo what before after (reply.Told text ending.NotPermitted) → HasBadCert words before
-  asked_bad (asked.Run run) is text told = absurd (run_permitted run is text told)
-  asked_bad (asked.Check name) is text told = check_bad name is text told
+  ran_other : (what : Asked) → IsAsked words what → (ran : Ran) → IsReplyTo what before after (reply.Ran ran) → (ended : Status) → is_of_run ended ≡ false → verdict_status ran.verdict ≡ ended → ⊥
+  ran_other (asked.Run run) is ran why ended other ends = run_other run is ran why ended other ends
+  ran_other (asked.Replay replay) is ran why ended other ends = absurd why
+  ran_other (asked.Check name) is ran why ended other ends = absurd why
 
-  good_of : (answer : Reply) → IsReply words before after answer → IsTold answer ending.Good → Holds words before ⊎ HasGoodCert words before
-  good_of answer cause told = let c = subst (IsReply words before after) told.is cause in asked_good c.what c.is told.text c.why
+  rerun_ends : (what : Asked) → IsAsked words what → (rerun : Rerun) → IsReplyTo what before after (reply.Rerun rerun) → (ended : Status) → replay_status rerun.result ≡ ended → Replays words before ended
+  rerun_ends (asked.Run run) is rerun why ended ends = absurd why
+  rerun_ends (asked.Replay replay) is rerun why ended ends = rerun_is ended replay is rerun why ends
+  rerun_ends (asked.Check name) is rerun why ended ends = absurd why
 
-  failed_of : (answer : Reply) → IsReply words before after answer → IsTold answer ending.Fails → HasFailed words before
-  failed_of answer cause told = let c = subst (IsReply words before after) told.is cause in asked_failed c.what c.is told.text c.why
+  checked_good : (what : Asked) → IsAsked words what → (lines : ℕ) (answered : CertReport) → IsReplyTo what before after (reply.Checked lines answered) → check_status answered ≡ status.Good → HasGoodCert words before
+  checked_good (asked.Run run) is lines answered why ends = absurd why
+  checked_good (asked.Replay replay) is lines answered why ends = absurd why
+  checked_good (asked.Check name) is lines answered why ends = check_good name is lines answered why ends
 
-  bad_of : (answer : Reply) → IsReply words before after answer → IsTold answer ending.NotPermitted → HasBadCert words before
-  bad_of answer cause told = let c = subst (IsReply words before after) told.is cause in asked_bad c.what c.is told.text c.why
+  checked_bad : (what : Asked) → IsAsked words what → (lines : ℕ) (answered : CertReport) → IsReplyTo what before after (reply.Checked lines answered) → check_status answered ≡ status.NotPermitted → HasBadCert words before
+  checked_bad (asked.Run run) is lines answered why ends = absurd why
+  checked_bad (asked.Replay replay) is lines answered why ends = absurd why
+  checked_bad (asked.Check name) is lines answered why ends = check_bad name is lines answered why ends
+
+  -- ---- what was replied
+
+  good_of : (answer : Reply) → IsReply words before after answer → reply_status answer ≡ status.Good → Holds words before ⊎ (Replays words before status.Good ⊎ HasGoodCert words before)
+  good_of reply.Usage cause ends = absurd cc
+  good_of reply.ReadFault cause ends = absurd cc
+  good_of reply.OutOfMemory cause ends = absurd cc
+  good_of (reply.Refused refusal) cause ends = absurd cc
+  good_of (reply.Ran ran) cause ends = inl (ran_good cause.what cause.is ran cause.why ends)
+  good_of (reply.Rerun rerun) cause ends = inr (inl (rerun_ends cause.what cause.is rerun cause.why status.Good ends))
+  good_of (reply.Checked lines answered) cause ends = inr (inr (checked_good cause.what cause.is lines answered cause.why ends))
+
+  failed_of : (answer : Reply) → IsReply words before after answer → reply_status answer ≡ status.Fails → HasFailed words before ⊎ Replays words before status.Fails
+  failed_of reply.Usage cause ends = absurd cc
+  failed_of reply.ReadFault cause ends = absurd cc
+  failed_of reply.OutOfMemory cause ends = absurd cc
+  failed_of (reply.Refused refusal) cause ends = absurd cc
+  failed_of (reply.Ran ran) cause ends = inl (ran_failed cause.what cause.is ran cause.why ends)
+  failed_of (reply.Rerun rerun) cause ends = inr (rerun_ends cause.what cause.is rerun cause.why status.Fails ends)
+  failed_of (reply.Checked lines answered) cause ends = absurd (check_other answered status.Fails refl ends)
+
+  bad_of : (answer : Reply) → IsReply words before after answer → reply_status answer ≡ status.NotPermitted → Replays words before status.NotPermitted ⊎ HasBadCert words before
+  bad_of reply.Usage cause ends = absurd cc
+  bad_of reply.ReadFault cause ends = absurd cc
+  bad_of reply.OutOfMemory cause ends = absurd cc
+  bad_of (reply.Refused refusal) cause ends = absurd cc
+  bad_of (reply.Ran ran) cause ends = absurd (ran_other cause.what cause.is ran cause.why status.NotPermitted refl ends)
+  bad_of (reply.Rerun rerun) cause ends = inl (rerun_ends cause.what cause.is rerun cause.why status.NotPermitted ends)
+  bad_of (reply.Checked lines answered) cause ends = inr (checked_bad cause.what cause.is lines answered cause.why ends)
+
+  undecided_of : (answer : Reply) → IsReply words before after answer → reply_status answer ≡ status.Undecided → ⊥
+  undecided_of reply.Usage cause ends = absurd cc
+  undecided_of reply.ReadFault cause ends = absurd cc
+  undecided_of reply.OutOfMemory cause ends = absurd cc
+  undecided_of (reply.Refused refusal) cause ends = absurd cc
+  undecided_of (reply.Ran ran) cause ends = ran_other cause.what cause.is ran cause.why status.Undecided refl ends
+  undecided_of (reply.Rerun rerun) cause ends = differ is_decided (replay_status rerun.result) status.Undecided (replay_decided rerun.result) refl ends
+  undecided_of (reply.Checked lines answered) cause ends = check_other answered status.Undecided refl ends
+
+  usage_of : (answer : Reply) → IsReply words before after answer → reply_status answer ≡ status.Usage → AreNone words
+  usage_of reply.Usage cause ends = cause
+  usage_of reply.ReadFault cause ends = absurd cc
+  usage_of reply.OutOfMemory cause ends = absurd cc
+  usage_of (reply.Refused refusal) cause ends = absurd cc
+  usage_of (reply.Ran ran) cause ends = absurd (differ is_told (verdict_status ran.verdict) status.Usage (run_told ran.verdict) refl ends)
+  usage_of (reply.Rerun rerun) cause ends = absurd (differ is_told (replay_status rerun.result) status.Usage (replay_told rerun.result) refl ends)
+  usage_of (reply.Checked lines answered) cause ends = absurd (differ is_told (check_status answered) status.Usage (check_told answered) refl ends)
+
+  fault_of : (what : Asked) → IsReplyTo what before after reply.ReadFault → HasFetchFault what before after
+  fault_of (asked.Run run) why = why
+  fault_of (asked.Replay replay) why = why
+  fault_of (asked.Check name) why = why
+
+  read_of : (answer : Reply) → IsReply words before after answer → reply_status answer ≡ status.ReadFault → HasReadFault words before after
+  read_of reply.Usage cause ends = absurd cc
+  read_of reply.ReadFault cause ends = record { what = cause.what; is = cause.is; fault = fault_of cause.what cause.why }
+  read_of reply.OutOfMemory cause ends = absurd cc
+  read_of (reply.Refused refusal) cause ends = absurd cc
+  read_of (reply.Ran ran) cause ends = absurd (differ is_told (verdict_status ran.verdict) status.ReadFault (run_told ran.verdict) refl ends)
+  read_of (reply.Rerun rerun) cause ends = absurd (differ is_told (replay_status rerun.result) status.ReadFault (replay_told rerun.result) refl ends)
+  read_of (reply.Checked lines answered) cause ends = absurd (differ is_told (check_status answered) status.ReadFault (check_told answered) refl ends)
 
 module _ (words : List (List ℕ)) (before after : DeskState) (out_before out_after : SinkState) (ended : Status) (answered : IsAnswered words before after out_before out_after ended) where
-  -- where a command ends well, no permitted schedule of the texts fails, or the certificate is good
-  pub good_end : ended ≡ status.Good → Holds words before ⊎ HasGoodCert words before
-  good_end is = good_of words before after answered.answer answered.cause (told_with ending.Good refl answered.answer answered.result (sym is ∙ answered.status))
+  ends : (expected : Status) → is_of_reply expected ≡ true → ended ≡ expected → reply_status answered.answer ≡ expected
+  ends expected other is = ends_as answered.answer answered.result expected other (sym is ∙ answered.status)
 
-  -- where it ends in a failure, some permitted schedule fails
-  pub failed_end : ended ≡ status.Fails → HasFailed words before
-  failed_end is = failed_of words before after answered.answer answered.cause (told_with ending.Fails refl answered.answer answered.result (sym is ∙ answered.status))
+  -- where a command ends well, no permitted schedule of the texts fails, or the choices were replayed to the end, or the certificate is good
+  pub good_end : ended ≡ status.Good → Holds words before ⊎ (Replays words before status.Good ⊎ HasGoodCert words before)
+  good_end is = good_of words before after answered.answer answered.cause (ends status.Good refl is)
 
-  -- where something isn't permitted, the certificate is bad
-  pub bad_end : ended ≡ status.NotPermitted → HasBadCert words before
-  bad_end is = bad_of words before after answered.answer answered.cause (told_with ending.NotPermitted refl answered.answer answered.result (sym is ∙ answered.status))
+  -- where it ends in a failure, some permitted schedule fails, or that of the words does
+  pub failed_end : ended ≡ status.Fails → HasFailed words before ⊎ Replays words before status.Fails
+  failed_end is = failed_of words before after answered.answer answered.cause (ends status.Fails refl is)
+
+  -- where something isn't permitted, it is a choice of the schedule, or the certificate is bad
+  pub bad_end : ended ≡ status.NotPermitted → Replays words before status.NotPermitted ⊎ HasBadCert words before
+  bad_end is = bad_of words before after answered.answer answered.cause (ends status.NotPermitted refl is)
+
+  -- no command ends undecided
+  pub decided_end : ended ≡ status.Undecided → ⊥
+  decided_end is = undecided_of words before after answered.answer answered.cause (ends status.Undecided refl is)
+
+  -- where the words are refused, they ask for nothing
+  pub usage_end : ended ≡ status.Usage → AreNone words
+  usage_end is = usage_of words before after answered.answer answered.cause (ends status.Usage refl is)
+
+  -- where a file can't be read, the desk failed at a fetch of it
+  pub read_end : ended ≡ status.ReadFault → HasReadFault words before after
+  read_end is = read_of words before after answered.answer answered.cause (ends status.ReadFault refl is)

@@ -1,11 +1,11 @@
-pub mod PrintedTexts
-pub mod Refusals
 pub mod OneRun
 pub mod Prepared
 pub mod Stages
 pub mod Status
 pub mod Replies
+pub mod Fit
 pub mod Runs
+pub mod Replays
 pub mod Checks
 pub mod Answers
 pub mod Headline

@@ -8,6 +8,9 @@ use Rattle.app_model.specs.declared.app.Task.{Task}
 use Rattle.c_lex.specs.CText.{IsCTokens, IsFirstFault}
 use Rattle.c_lex.specs.PlainTokens.{PlainTokens}
 use Rattle.c_lex.specs.declared.fault.LexFault.TheVariants as c_fault
+use Rattle.c_parse.specs.declared.fault.ParseFault.TheVariants as parse_fault
+use Rattle.c_parse.specs.declared.unit.Unit as units
+use Rattle.c_parse.specs.Parsed as parsed
 use Rattle.chk_base.specs.declared.place.Place.{Place}
 use Rattle.first_form.specs.FirstApp.{is_first_app}
 use Rattle.first_form.specs.FirstCode.{IsFirstCode}
@@ -20,14 +23,23 @@ use Rattle.oil_text.specs.declared.tree.OilTree.{OilTree}
 use Rattle.step_ir.specs.declared.code.Code.{Code}
 use Rattle.oschk_cmd.specs.declared.prepare.Stop.{Stop}
 use Rattle.oschk_cmd.specs.declared.prepare.Stop.TheVariants.{Refused, Memory}
-use Rattle.oschk_cmd.specs.declared.refusal.Refusal.{Refusal}
-use Rattle.oschk_cmd.specs.declared.refusal.Refusal.TheVariants as why
+use Rattle.report.specs.declared.reports.Refusal.{Refusal}
+use Rattle.report.specs.declared.reports.Refusal.TheVariants as why
 
 -- the tree of the OIL text, which breaks no rule in this mode, and the application that it describes
 pub record IsApp (oil : List ℕ) (mode : Option (List ℕ)) (tree : OilTree) (app : App) : Type 0 where
   pub tree_is : IsOilText oil tree
   pub app_is : app ≡ application tree mode
   pub accepted : faults tree mode ≡ []
+
+-- the tokens are a unit by the grammar of C, nested no deeper than is read
+abbrev pub HasUnit : PlainTokens → Type 0
+HasUnit tokens = (unit : units.Unit) × parsed.IsUnitOf tokens unit
+
+-- the C text has these tokens, and they are a unit
+pub record IsCText (c : List ℕ) (tokens : PlainTokens) : Type 0 where
+  pub tokens_are : IsCTokens c tokens
+  pub unit : HasUnit tokens
 
 -- the C text of an application of one task: its form, with the task's name
 pub record IsUnitOf (app : App) (tokens : PlainTokens) (unit : PlainUnit) : Type 0 where
@@ -41,7 +53,7 @@ pub record IsPrepared (oil c : List ℕ) (mode : Option (List ℕ)) (app : App) 
   pub tree : OilTree
   pub app_is : IsApp oil mode tree app
   pub tokens : PlainTokens
-  pub tokens_are : IsCTokens c tokens
+  pub text : IsCText c tokens
   pub unit : PlainUnit
   pub unit_is : IsUnitOf app tokens unit
   pub code_is : IsFirstCode unit.form unit.places code
@@ -52,7 +64,7 @@ pub record IsOtherApp (oil c : List ℕ) (mode : Option (List ℕ)) (place : Pla
   pub app : App
   pub app_is : IsApp oil mode tree app
   pub tokens : PlainTokens
-  pub tokens_are : IsCTokens c tokens
+  pub text : IsCText c tokens
   pub other : is_first_app app ≡ false
   pub place_is : place ≡ tree.cpu.place
 
@@ -69,12 +81,23 @@ pub record IsOtherUnit (oil c : List ℕ) (mode : Option (List ℕ)) (place : Pl
   pub app : App
   pub app_is : IsApp oil mode tree app
   pub tokens : PlainTokens
-  pub tokens_are : IsCTokens c tokens
+  pub text : IsCText c tokens
   pub form : IsOtherForm app tokens place
 
 -- the OIL text describes an application
 abbrev pub HasApp : List ℕ → Option (List ℕ) → Type 0
 HasApp oil mode = (tree : OilTree) × (app : App) × IsApp oil mode tree app
+
+-- the C text has tokens, of which this is so
+abbrev pub HasTokens : List ℕ → (PlainTokens → Type 0) → Type 0
+HasTokens c holds = (tokens : PlainTokens) × IsCTokens c tokens × holds tokens
+
+-- why tokens are no unit
+abbrev pub IsGrammarRefusal : PlainTokens → Refusal → Type 0
+IsGrammarRefusal tokens (why.CDepth place) = parsed.Refuses tokens (parse_fault.Depth place)
+IsGrammarRefusal tokens (why.CToken place) = parsed.Refuses tokens (parse_fault.Token place)
+IsGrammarRefusal tokens (why.CEnd place) = parsed.Refuses tokens (parse_fault.EndOfText place)
+IsGrammarRefusal tokens _ = ⊥
 
 -- why two texts are refused, stage by stage
 abbrev pub IsRefusal : List ℕ → List ℕ → Option (List ℕ) → Refusal → Type 0
@@ -85,6 +108,9 @@ IsRefusal oil c mode (why.OilRule rule place) = (tree : OilTree) × IsOilText oi
 IsRefusal oil c mode (why.CByte place) = HasApp oil mode × IsFirstFault c (c_fault.Byte place)
 IsRefusal oil c mode (why.CDirective place) = HasApp oil mode × IsFirstFault c (c_fault.Directive place)
 IsRefusal oil c mode (why.CNumber place) = HasApp oil mode × IsFirstFault c (c_fault.Number place)
+IsRefusal oil c mode (why.CDepth place) = HasApp oil mode × HasTokens c (λ tokens. IsGrammarRefusal tokens (why.CDepth place))
+IsRefusal oil c mode (why.CToken place) = HasApp oil mode × HasTokens c (λ tokens. IsGrammarRefusal tokens (why.CToken place))
+IsRefusal oil c mode (why.CEnd place) = HasApp oil mode × HasTokens c (λ tokens. IsGrammarRefusal tokens (why.CEnd place))
 IsRefusal oil c mode (why.FormOil place) = IsOtherApp oil c mode place
 IsRefusal oil c mode (why.FormC place) = IsOtherUnit oil c mode place
 IsRefusal oil c mode _ = ⊥

@@ -1,42 +1,72 @@
 -- What a reply prints, and how a command ends by it.
-use Rattle.std.specs.Prelude.{ℕ, Bool, true, false, if◌then◌else◌, List, Result, Ok, Err, codes}
-use Rattle.chk_base.specs.declared.sink.Failed.{Failed}
-use Rattle.oschk_cmd.specs.declared.reply.Ending.{Ending}
-use Rattle.oschk_cmd.specs.declared.reply.Ending.TheVariants as ending
+use Rattle.std.specs.Prelude.{ℕ, Bool, true, false, if◌then◌else◌, List, Option, Some, None, Result, Ok, Err}
+use Rattle.report.specs.declared.reports.CertReport.{CertReport}
+use Rattle.report.specs.declared.reports.CertReport.TheVariants as cert
+use Rattle.report.specs.declared.reports.ReplayFault.{ReplayFault}
+use Rattle.report.specs.declared.reports.ReplayFault.TheVariants as fault
+use Rattle.report.specs.declared.reports.Replayed.{Replayed}
+use Rattle.report.specs.declared.reports.Verdict.{Verdict}
+use Rattle.report.specs.declared.reports.Verdict.TheVariants as verdict
+use Rattle.report.specs.declared.reports.WriteFault.{WriteFault}
+use Rattle.report.specs.PrintedTexts.{PlainReport, report_text}
+use Rattle.report.specs.PrintedTexts as report
+use Rattle.step_ir.specs.declared.event.Failure.{Failure}
 use Rattle.oschk_cmd.specs.declared.reply.Reply.{Reply}
 use Rattle.oschk_cmd.specs.declared.reply.Reply.TheVariants as reply
 use Rattle.oschk_cmd.specs.declared.status.Status.{Status}
 use Rattle.oschk_cmd.specs.declared.status.Status.TheVariants as status
-use Rattle.oschk_cmd.specs.PrintedTexts.{line}
+
+-- the report of a reply
+abbrev pub report_of : Reply → PlainReport
+report_of reply.Usage = report.Usage
+report_of reply.ReadFault = report.ReadFault
+report_of reply.OutOfMemory = report.OutOfMemory
+report_of (reply.Refused refusal) = report.Refused refusal
+report_of (reply.Ran ran) = report.Ran None ran.app ran.code ran.turns 0 ran.verdict (Some ran.replayed) (Some ran.choices)
+report_of (reply.Rerun rerun) = report.Replay rerun.app rerun.code rerun.result
+report_of (reply.Checked lines answer) = report.Checked lines answer
 
 -- what is printed
 abbrev pub reply_text : Reply → List ℕ
-reply_text reply.Usage = line (codes "oschk: usage")
-reply_text reply.ReadFault = line (codes "oschk: read fault")
-reply_text reply.OutOfMemory = line (codes "oschk: out of memory")
-reply_text (reply.Told text end) = text
+reply_text answer = report_text (report_of answer)
 
-abbrev pub ending_status : Ending → Status
-ending_status ending.Good = status.Good
-ending_status ending.Fails = status.Fails
-ending_status ending.Refused = status.Refused
-ending_status ending.NotPermitted = status.NotPermitted
+abbrev pub verdict_status : Verdict → Status
+verdict_status verdict.Holds = status.Good
+verdict_status verdict.Fails = status.Fails
+verdict_status verdict.Undecided = status.Undecided
+
+abbrev pub failure_status : Option Failure → Status
+failure_status None = status.Good
+failure_status (Some failure) = status.Fails
+
+abbrev pub replay_status : Result Replayed ReplayFault → Status
+replay_status (Ok replayed) = failure_status replayed.failure
+replay_status (Err (fault.NotPermitted step state events)) = status.NotPermitted
+replay_status (Err fault.Memory) = status.Memory
+
+abbrev pub check_status : CertReport → Status
+check_status (cert.Good v) = status.Good
+check_status (cert.BadLine number) = status.NotPermitted
+check_status cert.BadVerdict = status.NotPermitted
 
 -- how the command ends where that is written
 abbrev pub reply_status : Reply → Status
 reply_status reply.Usage = status.Usage
 reply_status reply.ReadFault = status.ReadFault
 reply_status reply.OutOfMemory = status.Memory
-reply_status (reply.Told text end) = ending_status end
+reply_status (reply.Refused refusal) = status.Refused
+reply_status (reply.Ran ran) = verdict_status ran.verdict
+reply_status (reply.Rerun rerun) = replay_status rerun.result
+reply_status (reply.Checked lines answer) = check_status answer
 
 -- a fault keeps its status where its line can't be written
 abbrev pub is_fault : Reply → Bool
 is_fault reply.Usage = true
 is_fault reply.ReadFault = true
 is_fault reply.OutOfMemory = true
-is_fault (reply.Told text end) = false
+is_fault _ = false
 
 -- how the command ends after the write
-abbrev pub status_after : Reply → Result (Unit {0}) Failed → Status
+abbrev pub status_after : Reply → Result (Unit {0}) WriteFault → Status
 status_after answer (Ok u) = reply_status answer
 status_after answer (Err e) = if is_fault answer then reply_status answer else status.WriteFault

@@ -16,8 +16,8 @@ use Rattle.oil_text.specs.declared.tree.OilTree.{OilTree}
 use Rattle.oschk_cmd.specs.Prepared.{IsOtherForm}
 use Rattle.oschk_cmd.specs.declared.prepare.Stop.{Stop}
 use Rattle.oschk_cmd.specs.declared.prepare.Stop.TheVariants.{Refused, Memory}
-use Rattle.oschk_cmd.specs.declared.refusal.Refusal.{Refusal}
-use Rattle.oschk_cmd.specs.declared.refusal.Refusal.TheVariants as why
+use Rattle.report.specs.declared.reports.Refusal.{Refusal}
+use Rattle.report.specs.declared.reports.Refusal.TheVariants as why
 
 -- by this relation of refusals, or by want of memory
 abbrev pub StopsBy : (Refusal → Type 0) → Stop → Type 0

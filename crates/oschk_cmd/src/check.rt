@@ -1,92 +1,68 @@
 // What is replied to the words of a check.
-ghost use Rattle.std.specs.Prelude.{◌≡◌, ◌++◌, ◌≤◌, ◌^◌, length, true, IfOk, IfSome, OnOk};
+ghost use Rattle.std.specs.Prelude.{◌≡◌, ◌≤◌, ◌^◌, length, true, IfOk, IfSome};
 ghost use Rattle.clause_form.specs.Literals.{is_within};
-ghost use Rattle.oschk_cmd.specs.Checks.{IsCheckReply, IsCertReply, IsCheckedReply, answer_ending, answer_text, check_text, verdict_text};
+ghost use Rattle.oschk_cmd.specs.Checks.{IsCheckReply, IsCertReply, IsCheckedReply, answer_told, verdict_told};
+ghost use Rattle.oschk_cmd.specs.Fit.{IsFit};
 
-use crate::refusal::Refusal;
-use crate::reply::{Ending, Reply};
-use crate::report::put_number;
-use crate::run::refused;
+use crate::reply::Reply;
 use chk_base::desk::{Desk, FetchFault};
 use chk_base::text::Text;
-use proof_check::cert::{Cert, CertFault, Verdict, read_cert};
+use proof_check::cert::{Cert, CertFault, Verdict as CertVerdict, read_cert};
 use proof_check::check::{CertAnswer, check_cert};
+use report::reports::{CertReport, Refusal, Verdict};
 use std::alloc::{AllocError, Global};
 
 /// The most bytes that a certificate may have.
 const LIMIT: u64 = 1_073_741_824;
 
-fn verdict_text(verdict: Verdict) -> &'static [u8]
-    ensures { result.now ≡ verdict_text verdict }
+fn verdict_told(verdict: CertVerdict) -> Verdict
+    ensures { result ≡ verdict_told verdict }
 {
     match verdict {
-        Verdict::Holds => b"good holds\n",
-        Verdict::Fails => b"good fails\n",
-        Verdict::Undecided => b"good undecided\n",
+        CertVerdict::Holds => Verdict::Holds,
+        CertVerdict::Fails => Verdict::Fails,
+        CertVerdict::Undecided => Verdict::Undecided,
     }
 }
 
-fn put_answer(out: &mut Text, answer: CertAnswer) -> Result<(), AllocError>
-    ensures { OnOk result (out.new ≡ out.old ++ answer_text answer) }
+fn answer_told(answer: CertAnswer) -> CertReport
+    ensures { result ≡ answer_told answer }
 {
     match answer {
-        CertAnswer::Good(verdict) => out.append(verdict_text(verdict)),
-        CertAnswer::BadLine(number) => {
-            out.append(b"bad line ")?;
-            put_number(out, number)?;
-            out.append(b"\n")
-        }
-        CertAnswer::BadVerdict => out.append(b"bad verdict\n"),
+        CertAnswer::Good(verdict) => CertReport::Good(verdict_told(verdict)),
+        CertAnswer::BadLine(number) => CertReport::BadLine(number),
+        CertAnswer::BadVerdict => CertReport::BadVerdict,
     }
 }
 
-// The report of a check: how many lines the log has, and the answer.
-fn put_check(out: &mut Text, lines: u64, answer: CertAnswer) -> Result<(), AllocError>
-    ensures { OnOk result (out.new ≡ out.old ++ check_text lines answer) }
-{
-    out.append(b"oschk check\nlines ")?;
-    put_number(out, lines)?;
-    out.append(b"\n")?;
-    put_answer(out, answer)
-}
-
-fn answer_ending(answer: CertAnswer) -> Ending
-    ensures { result ≡ answer_ending answer }
-{
-    match answer {
-        CertAnswer::Good(_) => Ending::Good,
-        CertAnswer::BadLine(_) => Ending::NotPermitted,
-        CertAnswer::BadVerdict => Ending::NotPermitted,
-    }
-}
-
-fn report(alloc: Global, cert: &Cert) -> Result<Reply, AllocError>
+// What the check of a certificate tells: how many lines the log has, and the answer.
+fn checked(alloc: Global, cert: &Cert) -> Result<Reply, AllocError>
     requires goal { is_within cert.now.formula.variables cert.now.goal ≡ true }
     requires model { IfSome cert.now.model (λ values. length values ≡ cert.now.formula.variables) }
-    ensures { IfOk result (IsCheckedReply cert.now) }
+    ensures reply { IfOk result (IsCheckedReply cert.now) }
+    ensures fit { IfOk result IsFit }
 {
     let answer = check_cert(alloc, cert)?;
-    let mut text = Text::new(alloc);
-    put_check(&mut text, cert.log.len() as u64, answer)?;
-    Ok(Reply::Told {
-        text,
-        ending: answer_ending(answer),
+    Ok(Reply::Checked {
+        lines: cert.log.len() as u64,
+        answer: answer_told(answer),
     })
 }
 
 // What a certificate's text leads to.
 fn reply_to_text(alloc: Global, text: &Text) -> Reply
     requires { length text.now ≤ 2 ^ 30 }
-    ensures { IsCertReply text.now result }
+    ensures reply { IsCertReply text.now result }
+    ensures fit { IsFit result }
 {
     match read_cert(alloc, text) {
-        Ok(cert) => match report(alloc, &cert) {
+        Ok(cert) => match checked(alloc, &cert) {
             Ok(reply) => reply,
             Err(_) => Reply::OutOfMemory,
         },
-        Err(CertFault::Byte(place)) => refused(alloc, Refusal::CertByte(place)),
-        Err(CertFault::Token(place)) => refused(alloc, Refusal::CertToken(place)),
-        Err(CertFault::EndOfText(place)) => refused(alloc, Refusal::CertEnd(place)),
+        Err(CertFault::Byte(place)) => Reply::Refused(Refusal::CertByte(place)),
+        Err(CertFault::Token(place)) => Reply::Refused(Refusal::CertToken(place)),
+        Err(CertFault::EndOfText(place)) => Reply::Refused(Refusal::CertEnd(place)),
         Err(CertFault::Memory) => Reply::OutOfMemory,
     }
 }
@@ -94,12 +70,13 @@ fn reply_to_text(alloc: Global, text: &Text) -> Reply
 /// What is replied to the words of a check of the certificate of this name.
 pub fn reply_to_check<D: Desk>(alloc: Global, cert: &Text, desk: &mut D) -> Reply
     ensures reply { IsCheckReply cert.now (D.state desk.old) (D.state desk.new) result }
+    ensures fit { IsFit result }
     ensures files { (D.state desk.new).files ≡ (D.state desk.old).files }
 {
     match desk.fetch(alloc, cert, LIMIT) {
         Ok(text) => reply_to_text(alloc, &text),
         Err(FetchFault::Failed) => Reply::ReadFault,
-        Err(FetchFault::TooLong) => refused(alloc, Refusal::LongCert),
+        Err(FetchFault::TooLong) => Reply::Refused(Refusal::LongCert),
         Err(FetchFault::Memory) => Reply::OutOfMemory,
     }
 }

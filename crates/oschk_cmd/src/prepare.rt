@@ -10,15 +10,16 @@ ghost use Rattle.app_model.specs.Application.{application};
 ghost use Rattle.oil_rules.specs.Rules.{faults};
 ghost use Rattle.step_ir.specs.Fits.{Fits, point_count};
 ghost use Rattle.oschk_cmd.specs.declared.prepare.Stop.TheVariants as stop;
-ghost use Rattle.oschk_cmd.specs.Prepared.{IsUnitOf, IsPrepared, IsStop};
+ghost use Rattle.oschk_cmd.specs.Prepared.{HasUnit, IsGrammarRefusal, IsUnitOf, IsPrepared, IsStop};
 ghost use Rattle.oschk_cmd.specs.Stages.{StopsBy, IsOilRefusal, IsRuleRefusal, IsTokenRefusal, IsFormRefusal, IsUnitRefusal};
 
-use crate::refusal::Refusal;
 use app_model::app::App;
 use app_model::build::{AppFault, app_of};
 use c_lex::fault::LexFault;
 use c_lex::lexing::lex;
 use c_lex::tokens::Tokens;
+use c_parse::fault::ParseFault;
+use c_parse::parse::parse;
 use chk_base::place::Place;
 use chk_base::text::Text;
 use first_form::first_app::is_first_app;
@@ -28,6 +29,7 @@ use first_form::read::read_first;
 use oil_text::fault::OilFault;
 use oil_text::reader::read_oil;
 use oil_text::tree::OilTree;
+use report::reports::Refusal;
 use std::alloc::{AllocError, Global};
 use step_ir::code::Code;
 
@@ -94,6 +96,20 @@ fn tokens_of(alloc: Global, c: &Text) -> Result<Tokens, Stop>
     }
 }
 
+// That the tokens are a unit of C.
+fn check_unit(alloc: Global, tokens: &Tokens) -> Result<(), Stop>
+    ensures unit { OnOk result (HasUnit tokens.now) }
+    ensures stop { IfErr result (StopsBy (IsGrammarRefusal tokens.now)) }
+{
+    match parse(alloc, tokens) {
+        Ok(_) => Ok(()),
+        Err(ParseFault::Depth(place)) => Err(Stop::Refused(Refusal::CDepth(place))),
+        Err(ParseFault::Token(place)) => Err(Stop::Refused(Refusal::CToken(place))),
+        Err(ParseFault::EndOfText(place)) => Err(Stop::Refused(Refusal::CEnd(place))),
+        Err(ParseFault::Memory) => Err(Stop::Memory),
+    }
+}
+
 // The form of C of the application's task.
 fn task_unit(alloc: Global, tokens: &Tokens, task: &Text) -> Result<FirstUnit, Stop>
     ensures unit { IfOk result (IsFirstUnit tokens.now task.now) }
@@ -122,7 +138,7 @@ fn unit_of(alloc: Global, app: &App, cpu: Place, tokens: &Tokens) -> Result<Firs
     }
 }
 
-/// The application and the code of two texts, by stages: the OIL text, its rules, the tokens of the C text, and then the forms of both.
+/// The application and the code of two texts, by stages: the OIL text, its rules, the tokens of the C text, its grammar, and then the forms of both.
 /// Without a mode, the first of the text is meant.
 pub fn prepare(alloc: Global, oil: &Text, c: &Text, mode: Option<&Text>) -> Result<Prepared, Stop>
     requires oil { length oil.now ≤ 262144 }
@@ -137,6 +153,7 @@ pub fn prepare(alloc: Global, oil: &Text, c: &Text, mode: Option<&Text>) -> Resu
     let tree = tree_of(alloc, oil)?;
     let app = application_of(alloc, &tree, mode)?;
     let tokens = tokens_of(alloc, c)?;
+    check_unit(alloc, &tokens)?;
     let unit = match unit_of(alloc, &app, tree.cpu.place, &tokens) {
         Ok(unit) => unit,
         Err(stop) => return Err(stop),

@@ -1,48 +1,112 @@
 // What a command replies, before anything is written.
-ghost use Rattle.std.specs.Prelude.{◌≡◌};
-ghost use Rattle.oschk_cmd.specs.Replies.{ending_status, is_fault, reply_status, reply_text};
+ghost use Rattle.std.specs.Prelude.{◌≡◌, is_some};
+ghost use Rattle.report.specs.PrintedTexts.{plain_report};
+ghost use Rattle.oschk_cmd.specs.Replies.{check_status, is_fault, replay_status, reply_status, report_of, verdict_status};
 
 use crate::status::Status;
-use chk_base::text::Text;
+use app_model::app::App;
+use report::reports::{CertReport, Refusal, ReplayFault, Replayed, Report, Verdict};
+use step_ir::code::Code;
+use step_ir::event::Choices;
 
-/// How a command ends that has something to tell.
-#[derive(Clone, Copy, PartialEq, Eq, Debug)]
-pub enum Ending {
-    Good,
-    Fails,
-    Refused,
-    NotPermitted,
+/// The run of an application by at most so many turns: its verdict, its events, and its choices.
+#[derive(Drop)]
+pub struct Ran {
+    pub app: App,
+    pub code: Code,
+    pub turns: u16,
+    pub verdict: Verdict,
+    pub replayed: Replayed,
+    pub choices: Choices,
 }
 
-/// A fault, or a text with the ending.
+/// The replay of a schedule of an application.
+#[derive(Drop)]
+pub struct Rerun {
+    pub app: App,
+    pub code: Code,
+    pub result: Result<Replayed, ReplayFault>,
+}
+
+/// A fault, a refusal, or what a command has to tell. A check tells of how many lines the log has, and the answer.
 #[derive(Drop)]
 pub enum Reply {
     Usage,
     ReadFault,
     OutOfMemory,
-    Told { text: Text, ending: Ending },
+    Refused(Refusal),
+    Ran(Ran),
+    Rerun(Rerun),
+    Checked { lines: u64, answer: CertReport },
 }
 
-fn ending_status(ending: Ending) -> Status
-    ensures { result ≡ ending_status ending }
+fn ran_report<'a>(ran: &'a Ran) -> Report<'a>
+    ensures { plain_report result ≡ report_of (Reply.Ran ran.now) }
 {
-    match ending {
-        Ending::Good => Status::Good,
-        Ending::Fails => Status::Fails,
-        Ending::Refused => Status::Refused,
-        Ending::NotPermitted => Status::NotPermitted,
+    Report::Ran {
+        made: None,
+        app: &ran.app,
+        code: &ran.code,
+        turns: ran.turns,
+        arrivals: 0,
+        verdict: ran.verdict,
+        replayed: Some(&ran.replayed),
+        choices: Some(&ran.choices),
     }
 }
 
-/// The text of a reply.
-pub fn text_of(reply: &Reply) -> &[u8]
-    ensures { result.now ≡ reply_text reply.now }
+/// The report of a reply.
+pub fn report_of<'a>(reply: &'a Reply) -> Report<'a>
+    ensures { plain_report result ≡ report_of reply.now }
 {
     match reply {
-        Reply::Usage => b"oschk: usage\n",
-        Reply::ReadFault => b"oschk: read fault\n",
-        Reply::OutOfMemory => b"oschk: out of memory\n",
-        Reply::Told { text, ending: _ } => text.as_bytes(),
+        Reply::Usage => Report::Usage,
+        Reply::ReadFault => Report::ReadFault,
+        Reply::OutOfMemory => Report::OutOfMemory,
+        Reply::Refused(refusal) => Report::Refused(*refusal),
+        Reply::Ran(ran) => ran_report(ran),
+        Reply::Rerun(rerun) => Report::Replay {
+            app: &rerun.app,
+            code: &rerun.code,
+            result: &rerun.result,
+        },
+        Reply::Checked { lines, answer } => Report::Checked {
+            lines: *lines,
+            answer: *answer,
+        },
+    }
+}
+
+fn verdict_status(verdict: Verdict) -> Status
+    ensures { result ≡ verdict_status verdict }
+{
+    match verdict {
+        Verdict::Holds => Status::Good,
+        Verdict::Fails => Status::Fails,
+        Verdict::Undecided => Status::Undecided,
+    }
+}
+
+fn replay_status(outcome: &Result<Replayed, ReplayFault>) -> Status
+    ensures { result ≡ replay_status outcome.now }
+{
+    match outcome {
+        Ok(replayed) => match replayed.failure {
+            Some(_) => Status::Fails,
+            None => Status::Good,
+        },
+        Err(ReplayFault::NotPermitted { .. }) => Status::NotPermitted,
+        Err(ReplayFault::Memory) => Status::Memory,
+    }
+}
+
+fn check_status(answer: CertReport) -> Status
+    ensures { result ≡ check_status answer }
+{
+    match answer {
+        CertReport::Good(_) => Status::Good,
+        CertReport::BadLine(_) => Status::NotPermitted,
+        CertReport::BadVerdict => Status::NotPermitted,
     }
 }
 
@@ -54,7 +118,10 @@ pub fn status_of(reply: &Reply) -> Status
         Reply::Usage => Status::Usage,
         Reply::ReadFault => Status::ReadFault,
         Reply::OutOfMemory => Status::Memory,
-        Reply::Told { text: _, ending } => ending_status(*ending),
+        Reply::Refused(_) => Status::Refused,
+        Reply::Ran(ran) => verdict_status(ran.verdict),
+        Reply::Rerun(rerun) => replay_status(&rerun.result),
+        Reply::Checked { lines: _, answer } => check_status(*answer),
     }
 }
 

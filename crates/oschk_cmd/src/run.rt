@@ -2,62 +2,51 @@
 ghost use Rattle.std.specs.Prelude.{◌≡◌, ◌≤◌, length, IfOk};
 ghost use Rattle.app_model.specs.InOrder.{IsInOrder};
 ghost use Rattle.first_form.specs.FirstCode.{TakesNoInput};
-ghost use Rattle.step_ir.specs.Fits.{Fits, point_count};
-ghost use Rattle.oschk_cmd.specs.Runs.{IsRunReply, IsTextsReply, IsReportReply, IsRefusalReply, verdict};
+ghost use Rattle.report.specs.Printing.{AreFit};
+ghost use Rattle.step_ir.specs.Fits.{Fits};
+ghost use Rattle.oschk_cmd.specs.Fit.{IsFit};
+ghost use Rattle.oschk_cmd.specs.Runs.{IsRanOf, IsRunReply, IsTextsReply, verdict_of};
 
-use crate::one_run::one_run;
+use crate::one_run::{one_run, steps};
 use crate::prepare::{Prepared, Stop, prepare};
-use crate::refusal::{Refusal, text_of};
-use crate::reply::{Ending, Reply};
-use crate::report::put_run;
+use crate::reply::{Ran, Reply};
 use chk_base::desk::{Desk, FetchFault};
 use chk_base::text::Text;
 use command_words::asked::RunWords;
+use report::reports::{Refusal, Verdict};
 use std::alloc::{AllocError, Global};
+use step_ir::event::Failure;
 
 /// The most bytes that a text may have.
 const LIMIT: u64 = 262_144;
 
-/// The reply that says why texts are refused.
-pub fn refused(alloc: Global, refusal: Refusal) -> Reply
-    ensures { IsRefusalReply refusal result }
+fn verdict_of(failure: Option<Failure>) -> Verdict
+    ensures { result ≡ verdict_of failure }
 {
-    match text_of(alloc, refusal) {
-        Ok(text) => Reply::Told {
-            text,
-            ending: Ending::Refused,
-        },
-        Err(_) => Reply::OutOfMemory,
+    match failure {
+        Some(_) => Verdict::Fails,
+        None => Verdict::Holds,
     }
 }
 
-fn verdict(failed: bool) -> Ending
-    ensures { result ≡ verdict failed }
+// The one run.
+fn ran(alloc: Global, prepared: Prepared, turns: u16) -> Result<Ran, AllocError>
+    requires order { IsInOrder prepared.app }
+    requires fits { Fits prepared.app prepared.code }
+    requires no_input { TakesNoInput prepared.code }
+    ensures ran { IfOk result (IsRanOf prepared.app prepared.code turns) }
+    ensures fit { IfOk result (λ ran. AreFit ran.app ran.code) }
 {
-    if failed { Ending::Fails } else { Ending::Good }
-}
-
-// The report of the one run.
-fn report(alloc: Global, prepared: &Prepared, turns: u16) -> Result<Reply, AllocError>
-    requires order { IsInOrder prepared.now.app }
-    requires fits { Fits prepared.now.app prepared.now.code }
-    requires no_input { TakesNoInput prepared.now.code }
-    requires few_points { point_count prepared.now.code.entities ≤ 2048 }
-    ensures { IfOk result (IsReportReply prepared.now.app prepared.now.code turns) }
-{
-    let run = one_run(alloc, &prepared.app, &prepared.code, turns)?;
-    let mut text = Text::new(alloc);
-    put_run(
-        &mut text,
-        &prepared.app,
-        &prepared.code,
+    let replayed = one_run(alloc, &prepared.app, &prepared.code, turns)?;
+    let choices = steps(alloc, replayed.events.len())?;
+    let verdict = verdict_of(replayed.failure);
+    Ok(Ran {
+        app: prepared.app,
+        code: prepared.code,
         turns,
-        &run.events,
-        run.found,
-    )?;
-    Ok(Reply::Told {
-        text,
-        ending: verdict(run.found.is_some()),
+        verdict,
+        replayed,
+        choices,
     })
 }
 
@@ -65,14 +54,15 @@ fn report(alloc: Global, prepared: &Prepared, turns: u16) -> Result<Reply, Alloc
 fn reply_to_texts(alloc: Global, oil: &Text, c: &Text, run: &RunWords) -> Reply
     requires oil { length oil.now ≤ 262144 }
     requires c { length c.now ≤ 262144 }
-    ensures { IsTextsReply oil.now c.now run.now result }
+    ensures reply { IsTextsReply oil.now c.now run.now result }
+    ensures fit { IsFit result }
 {
     match prepare(alloc, oil, c, run.mode.as_ref()) {
-        Ok(prepared) => match report(alloc, &prepared, run.turns) {
-            Ok(reply) => reply,
+        Ok(prepared) => match ran(alloc, prepared, run.turns) {
+            Ok(ran) => Reply::Ran(ran),
             Err(_) => Reply::OutOfMemory,
         },
-        Err(Stop::Refused(refusal)) => refused(alloc, refusal),
+        Err(Stop::Refused(refusal)) => Reply::Refused(refusal),
         Err(Stop::Memory) => Reply::OutOfMemory,
     }
 }
@@ -80,18 +70,19 @@ fn reply_to_texts(alloc: Global, oil: &Text, c: &Text, run: &RunWords) -> Reply
 /// What is replied to the words of a run.
 pub fn reply_to_run<D: Desk>(alloc: Global, run: &RunWords, desk: &mut D) -> Reply
     ensures reply { IsRunReply run.now (D.state desk.old) (D.state desk.new) result }
+    ensures fit { IsFit result }
     ensures files { (D.state desk.new).files ≡ (D.state desk.old).files }
 {
     let oil = match desk.fetch(alloc, &run.oil, LIMIT) {
         Ok(text) => text,
         Err(FetchFault::Failed) => return Reply::ReadFault,
-        Err(FetchFault::TooLong) => return refused(alloc, Refusal::LongOil),
+        Err(FetchFault::TooLong) => return Reply::Refused(Refusal::LongOil),
         Err(FetchFault::Memory) => return Reply::OutOfMemory,
     };
     let c = match desk.fetch(alloc, &run.c, LIMIT) {
         Ok(text) => text,
         Err(FetchFault::Failed) => return Reply::ReadFault,
-        Err(FetchFault::TooLong) => return refused(alloc, Refusal::LongC),
+        Err(FetchFault::TooLong) => return Reply::Refused(Refusal::LongC),
         Err(FetchFault::Memory) => return Reply::OutOfMemory,
     };
     reply_to_texts(alloc, &oil, &c, run)

@@ -1,7 +1,8 @@
 use Rattle.std.proofs.Common.{◌≡◌, ◌+◌, ◌∷◌, [], length, length-append, ap, sym, subst, ◌∙◌, false, List, arith}
 use Rattle.step_ir.specs.declared.event.Event.{Event}
 use Rattle.step_ir.specs.PermittedSchedule.{fails}
-use Rattle.oschk_cmd.specs.OneRun.{steps, last_failure}
+use Rattle.replay.specs.Replaying.{last_failure}
+use Rattle.oschk_cmd.specs.OneRun.{steps}
 use Rattle.oschk_cmd.proofs.OnlyRun.{AreHarmless, harmless-append, none_fails}
 use Rattle.oschk_cmd.proofs.Runs.{failure-some, is_run, last_failure-append, next_run, no_failure}
 use Rattle.oschk_cmd.proofs.one_run.one_run.Goals as goal
@@ -29,9 +30,9 @@ returns-in-Failed c =
     is_run _ _ _ _ _ _
     (next_run _ _ _ _ _ _ c.in_ok-push-in-Failed.ensures.ok answered.0)
     (omega (arith, count, c.loop.invariant.count))
-    (c.failure_at-found.ensures
+    (c.failure_of-failure.ensures
     ∙ sym (ap last_failure c.in_ok-push-in-Failed.ensures.ok ∙ last_failure-append c.loop.events c.in-Failed.event))
-    (λ none. absurd (failure-some c.in-Failed.event c.loop.events answered.1 (sym c.failure_at-found.ensures ∙ none)))
+    (λ none. absurd (failure-some c.in-Failed.event c.loop.events answered.1 (sym c.failure_of-failure.ensures ∙ none)))
 
 pub returns-in-Refused : goal.returns-in-Refused
 returns-in-Refused c =

@@ -6,4 +6,4 @@ pub returns-in-Err-clause-stop : goal.returns-in-Err-clause-stop
 returns-in-Err-clause-stop c =
     unit_stop c.args.oil.now c.args.c.now (option_copied c.args.mode) c.in_ok-tree.tree c.in_ok-app.app
     (record { tree_is = c.in_ok-tree.ensures.tree; app_is = c.in_ok-app.ensures.app; accepted = c.in_ok-app.ensures.accepted })
-    c.in_ok-tokens.tokens c.in_ok-tokens.ensures.tokens c.in-Err.stop c.in-Err.ensures.stop
+    c.in_ok-tokens.tokens (record { tokens_are = c.in_ok-tokens.ensures.tokens; unit = c.in_ok-check_unit.ensures.unit }) c.in-Err.stop c.in-Err.ensures.stop
