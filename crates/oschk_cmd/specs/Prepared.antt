@@ -11,6 +11,10 @@ use Rattle.c_lex.specs.declared.fault.LexFault.TheVariants as c_fault
 use Rattle.c_parse.specs.declared.fault.ParseFault.TheVariants as parse_fault
 use Rattle.c_parse.specs.declared.unit.Unit as units
 use Rattle.c_parse.specs.Parsed as parsed
+use Rattle.c_rules.specs.First.{IsFirst}
+use Rattle.c_rules.specs.UnitRules as c_rules
+use Rattle.c_types.specs.Typed as typed
+use Rattle.static_rules.specs.Rules as static_rules
 use Rattle.chk_base.specs.declared.place.Place.{Place}
 use Rattle.first_form.specs.FirstApp.{is_first_app}
 use Rattle.first_form.specs.FirstCode.{IsFirstCode}
@@ -32,14 +36,17 @@ pub record IsApp (oil : List ℕ) (mode : Option (List ℕ)) (tree : OilTree) (a
   pub app_is : app ≡ application tree mode
   pub accepted : faults tree mode ≡ []
 
--- the tokens are a unit by the grammar of C, nested no deeper than is read
-abbrev pub HasUnit : PlainTokens → Type 0
-HasUnit tokens = (unit : units.Unit) × parsed.IsUnitOf tokens unit
+-- a unit of C breaks no rule for an application, neither of C nor of what its bodies do
+pub record KeepsRules (app : App) (unit : units.Unit) : Type 0 where
+  pub accepted : c_rules.faults unit app ≡ []
+  pub unbroken : static_rules.faults (typed.typed unit app) app ≡ []
 
--- the C text has these tokens, and they are a unit
-pub record IsCText (c : List ℕ) (tokens : PlainTokens) : Type 0 where
+-- the C text has these tokens, and they are a unit by the grammar of C, nested no deeper than is read, which breaks no rule
+pub record IsCText (app : App) (c : List ℕ) (tokens : PlainTokens) : Type 0 where
   pub tokens_are : IsCTokens c tokens
-  pub unit : HasUnit tokens
+  pub unit : units.Unit
+  pub unit_is : parsed.IsUnitOf tokens unit
+  pub rules : KeepsRules app unit
 
 -- the C text of an application of one task: its form, with the task's name
 pub record IsUnitOf (app : App) (tokens : PlainTokens) (unit : PlainUnit) : Type 0 where
@@ -53,7 +60,7 @@ pub record IsPrepared (oil c : List ℕ) (mode : Option (List ℕ)) (app : App) 
   pub tree : OilTree
   pub app_is : IsApp oil mode tree app
   pub tokens : PlainTokens
-  pub text : IsCText c tokens
+  pub text : IsCText app c tokens
   pub unit : PlainUnit
   pub unit_is : IsUnitOf app tokens unit
   pub code_is : IsFirstCode unit.form unit.places code
@@ -64,7 +71,7 @@ pub record IsOtherApp (oil c : List ℕ) (mode : Option (List ℕ)) (place : Pla
   pub app : App
   pub app_is : IsApp oil mode tree app
   pub tokens : PlainTokens
-  pub text : IsCText c tokens
+  pub text : IsCText app c tokens
   pub other : is_first_app app ≡ false
   pub place_is : place ≡ tree.cpu.place
 
@@ -81,7 +88,7 @@ pub record IsOtherUnit (oil c : List ℕ) (mode : Option (List ℕ)) (place : Pl
   pub app : App
   pub app_is : IsApp oil mode tree app
   pub tokens : PlainTokens
-  pub text : IsCText c tokens
+  pub text : IsCText app c tokens
   pub form : IsOtherForm app tokens place
 
 -- the OIL text describes an application
@@ -99,6 +106,24 @@ IsGrammarRefusal tokens (why.CToken place) = parsed.Refuses tokens (parse_fault.
 IsGrammarRefusal tokens (why.CEnd place) = parsed.Refuses tokens (parse_fault.EndOfText place)
 IsGrammarRefusal tokens _ = ⊥
 
+-- the texts are an application and a unit of C, of which this is so
+pub record AreRead (oil c : List ℕ) (mode : Option (List ℕ)) (holds : App → units.Unit → Type 0) : Type 0 where
+  pub tree : OilTree
+  pub app : App
+  pub app_is : IsApp oil mode tree app
+  pub tokens : PlainTokens
+  pub tokens_are : IsCTokens c tokens
+  pub unit : units.Unit
+  pub unit_is : parsed.IsUnitOf tokens unit
+  pub so : holds app unit
+
+-- the first rule of C that a unit breaks, or, where it breaks none, the first of those on what its bodies do
+abbrev pub BreaksRule : Refusal → App → units.Unit → Type 0
+BreaksRule (why.CRule rule place) app unit = IsFirst (c_rules.faults unit app) (record { rule = rule; place = place })
+BreaksRule (why.StaticRule rule place) app unit =
+    (c_rules.faults unit app ≡ []) × IsFirst (static_rules.faults (typed.typed unit app) app) (record { rule = rule; place = place })
+BreaksRule _ app unit = ⊥
+
 -- why two texts are refused, stage by stage
 abbrev pub IsRefusal : List ℕ → List ℕ → Option (List ℕ) → Refusal → Type 0
 IsRefusal oil c mode (why.OilByte place) = IsRefusedFor oil (oil_fault.Byte place)
@@ -111,6 +136,8 @@ IsRefusal oil c mode (why.CNumber place) = HasApp oil mode × IsFirstFault c (c_
 IsRefusal oil c mode (why.CDepth place) = HasApp oil mode × HasTokens c (λ tokens. IsGrammarRefusal tokens (why.CDepth place))
 IsRefusal oil c mode (why.CToken place) = HasApp oil mode × HasTokens c (λ tokens. IsGrammarRefusal tokens (why.CToken place))
 IsRefusal oil c mode (why.CEnd place) = HasApp oil mode × HasTokens c (λ tokens. IsGrammarRefusal tokens (why.CEnd place))
+IsRefusal oil c mode (why.CRule rule place) = AreRead oil c mode (BreaksRule (why.CRule rule place))
+IsRefusal oil c mode (why.StaticRule rule place) = AreRead oil c mode (BreaksRule (why.StaticRule rule place))
 IsRefusal oil c mode (why.FormOil place) = IsOtherApp oil c mode place
 IsRefusal oil c mode (why.FormC place) = IsOtherUnit oil c mode place
 IsRefusal oil c mode _ = ⊥

@@ -5,12 +5,16 @@ ghost use Rattle.app_model.specs.InOrder.{IsInOrder};
 ghost use Rattle.first_form.specs.FirstCode.{TakesNoInput};
 ghost use Rattle.first_form.specs.FirstUnit.{IsBounded, IsFirstUnit};
 ghost use Rattle.c_lex.specs.CText.{IsCTokens};
+ghost use Rattle.c_parse.specs.Parsed as parsed;
+ghost use Rattle.c_rules.specs.UnitRules as c_rules;
+ghost use Rattle.c_types.specs.Typed.{typed};
+ghost use Rattle.c_types.specs.Views.{unit_of};
 ghost use Rattle.oil_text.specs.OilText.{IsOilText};
 ghost use Rattle.app_model.specs.Application.{application};
 ghost use Rattle.oil_rules.specs.Rules.{faults};
 ghost use Rattle.step_ir.specs.Fits.{Fits, point_count};
 ghost use Rattle.oschk_cmd.specs.declared.prepare.Stop.TheVariants as stop;
-ghost use Rattle.oschk_cmd.specs.Prepared.{HasUnit, IsGrammarRefusal, IsUnitOf, IsPrepared, IsStop};
+ghost use Rattle.oschk_cmd.specs.Prepared.{BreaksRule, IsGrammarRefusal, IsUnitOf, IsPrepared, IsStop, KeepsRules};
 ghost use Rattle.oschk_cmd.specs.Stages.{StopsBy, IsOilRefusal, IsRuleRefusal, IsTokenRefusal, IsFormRefusal, IsUnitRefusal};
 
 use app_model::app::App;
@@ -20,6 +24,9 @@ use c_lex::lexing::lex;
 use c_lex::tokens::Tokens;
 use c_parse::fault::ParseFault;
 use c_parse::parse::parse;
+use c_parse::unit::Unit;
+use c_types::typed::TypedUnit;
+use c_types::types::{TypeFault, type_unit};
 use chk_base::place::Place;
 use chk_base::text::Text;
 use first_form::first_app::is_first_app;
@@ -30,6 +37,7 @@ use oil_text::fault::OilFault;
 use oil_text::reader::read_oil;
 use oil_text::tree::OilTree;
 use report::reports::Refusal;
+use static_rules::check::{RuleFault, check_rules};
 use std::alloc::{AllocError, Global};
 use step_ir::code::Code;
 
@@ -96,17 +104,44 @@ fn tokens_of(alloc: Global, c: &Text) -> Result<Tokens, Stop>
     }
 }
 
-// That the tokens are a unit of C.
-fn check_unit(alloc: Global, tokens: &Tokens) -> Result<(), Stop>
-    ensures unit { OnOk result (HasUnit tokens.now) }
+// The unit of C that the tokens are.
+fn written_of(alloc: Global, tokens: &Tokens) -> Result<Unit, Stop>
+    ensures unit { IfOk result (parsed.IsUnitOf tokens.now) }
     ensures stop { IfErr result (StopsBy (IsGrammarRefusal tokens.now)) }
 {
     match parse(alloc, tokens) {
-        Ok(_) => Ok(()),
+        Ok(unit) => Ok(unit),
         Err(ParseFault::Depth(place)) => Err(Stop::Refused(Refusal::CDepth(place))),
         Err(ParseFault::Token(place)) => Err(Stop::Refused(Refusal::CToken(place))),
         Err(ParseFault::EndOfText(place)) => Err(Stop::Refused(Refusal::CEnd(place))),
         Err(ParseFault::Memory) => Err(Stop::Memory),
+    }
+}
+
+// The typed unit.
+fn typed_of(alloc: Global, app: &App, unit: &Unit) -> Result<TypedUnit, Stop>
+    ensures typed { IfOk result (λ u. unit_of u ≡ typed unit.now app.now) }
+    ensures accepted { OnOk result (c_rules.faults unit.now app.now ≡ []) }
+    ensures stop { IfErr result (StopsBy (λ refusal. BreaksRule refusal app.now unit.now)) }
+{
+    match type_unit(alloc, unit, app) {
+        Ok(typed) => Ok(typed),
+        Err(TypeFault::Rule(rule, place)) => Err(Stop::Refused(Refusal::CRule(rule, place))),
+        Err(TypeFault::Memory) => Err(Stop::Memory),
+    }
+}
+
+// That the unit breaks no rule.
+fn check_unit(alloc: Global, app: &App, unit: &Unit) -> Result<(), Stop>
+    requires { IsInOrder app.now }
+    ensures rules { OnOk result (KeepsRules app.now unit.now) }
+    ensures stop { IfErr result (StopsBy (λ refusal. BreaksRule refusal app.now unit.now)) }
+{
+    let typed = typed_of(alloc, app, unit)?;
+    match check_rules(alloc, app, typed) {
+        Ok(_) => Ok(()),
+        Err(RuleFault::Rule(rule, place)) => Err(Stop::Refused(Refusal::StaticRule(rule, place))),
+        Err(RuleFault::Memory) => Err(Stop::Memory),
     }
 }
 
@@ -124,7 +159,7 @@ fn task_unit(alloc: Global, tokens: &Tokens, task: &Text) -> Result<FirstUnit, S
 }
 
 // The form of C, where the application has the one-task form; the CPU's name is at this place.
-fn unit_of(alloc: Global, app: &App, cpu: Place, tokens: &Tokens) -> Result<FirstUnit, Stop>
+fn form_of(alloc: Global, app: &App, cpu: Place, tokens: &Tokens) -> Result<FirstUnit, Stop>
     ensures unit { IfOk result (IsUnitOf app.now tokens.now) }
     ensures bounded { IfOk result IsBounded }
     ensures stop { IfErr result (StopsBy (IsUnitRefusal app.now cpu tokens.now)) }
@@ -138,7 +173,7 @@ fn unit_of(alloc: Global, app: &App, cpu: Place, tokens: &Tokens) -> Result<Firs
     }
 }
 
-/// The application and the code of two texts, by stages: the OIL text, its rules, the tokens of the C text, its grammar, and then the forms of both.
+/// The application and the code of two texts, by stages: the OIL text, its rules, the tokens of the C text, its grammar, its rules, and then the forms of both.
 /// Without a mode, the first of the text is meant.
 pub fn prepare(alloc: Global, oil: &Text, c: &Text, mode: Option<&Text>) -> Result<Prepared, Stop>
     requires oil { length oil.now ≤ 262144 }
@@ -153,8 +188,12 @@ pub fn prepare(alloc: Global, oil: &Text, c: &Text, mode: Option<&Text>) -> Resu
     let tree = tree_of(alloc, oil)?;
     let app = application_of(alloc, &tree, mode)?;
     let tokens = tokens_of(alloc, c)?;
-    check_unit(alloc, &tokens)?;
-    let unit = match unit_of(alloc, &app, tree.cpu.place, &tokens) {
+    let unit = written_of(alloc, &tokens)?;
+    match check_unit(alloc, &app, &unit) {
+        Ok(()) => {}
+        Err(stop) => return Err(stop),
+    }
+    let unit = match form_of(alloc, &app, tree.cpu.place, &tokens) {
         Ok(unit) => unit,
         Err(stop) => return Err(stop),
     };
