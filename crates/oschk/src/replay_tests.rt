@@ -145,7 +145,7 @@ const REPLAYS: [Replay; 25] = [
         &["int x;\n"],
         &["Go\n"],
         3,
-        "refused FORM C at 1:1\n",
+        "refused C RULE S4 at 2:1\n",
     ),
     (
         "replay app.oil app.c app.sched --mode=M",

@@ -329,7 +329,7 @@ fn options_stand_before_between_and_after_the_names(rt: HostRuntime) -> Result<(
 // An OIL text, a C text, and the line that refuses them.
 type Refused = (Parts, Parts, &'static str);
 
-const REFUSED: [Refused; 24] = [
+const REFUSED: [Refused; 33] = [
     (&[], &[], "refused OIL END at 1:1\n"),
     (
         &["OIL_VERSION = \"2.5\";\nCPU c {\nTASK T { PRIORITY = ; };\n};\n"],
@@ -386,7 +386,7 @@ const REFUSED: [Refused; 24] = [
     (
         &[HEAD, TASK, LATER, TAIL],
         HOLDS,
-        "refused FORM OIL at 2:5\n",
+        "refused C RULE S4 at 7:1\n",
     ),
     (
         &[HEAD, TASK, LATER, TAIL],
@@ -395,7 +395,7 @@ const REFUSED: [Refused; 24] = [
     ),
     (OIL, &["uint8_t x;\n@\n"], "refused C BYTE at 2:1\n"),
     (OIL, &["#if 1\n"], "refused C DIRECTIVE at 1:1\n"),
-    (OIL, &[], "refused FORM C at 1:1\n"),
+    (OIL, &[], "refused C RULE S4 at 1:1\n"),
     (
         OIL,
         &[
@@ -416,13 +416,13 @@ const REFUSED: [Refused; 24] = [
     (
         OIL,
         &["uint8_t x;\nuint8_t x;\n"],
-        "refused FORM C at 2:9\n",
+        "refused C RULE C3 at 2:9\n",
     ),
-    (OIL, &["uint8_t T;\n"], "refused FORM C at 1:9\n"),
+    (OIL, &["uint8_t T;\n"], "refused C RULE C3 at 1:9\n"),
     (
         OIL,
         &["uint8_t x;\nTASK(U) {\n  TerminateTask();\n}\n"],
-        "refused FORM C at 2:6\n",
+        "refused C RULE S1 at 2:6\n",
     ),
     (
         OIL,
@@ -440,7 +440,7 @@ const REFUSED: [Refused; 24] = [
     (
         OIL,
         &["uint8_t x;\nTASK(T) {\n  y = 1;\n  TerminateTask();\n}\n"],
-        "refused FORM C at 3:3\n",
+        "refused C RULE C2 at 3:3\n",
     ),
     (
         OIL,
@@ -452,6 +452,39 @@ const REFUSED: [Refused; 24] = [
         &["TASK(T) {\n  TerminateTask();\n}\nuint8_t x;\n"],
         "refused FORM C at 4:1\n",
     ),
+    (
+        OIL,
+        &["uint8_t x;\nTASK(T) {\n  if (x == 1) {\n    x = 2;"],
+        "refused C END at 4:11\n",
+    ),
+    (
+        OIL,
+        &["uint8_t x;\nTASK(T) {\n  x = 1 + f(2);\n"],
+        "refused C TOKEN at 3:12\n",
+    ),
+    (
+        OIL,
+        &["TASK(T) {\n  uint8_t v;\n}\n"],
+        "refused C RULE C9 at 2:11\n",
+    ),
+    (
+        OIL,
+        &["TASK(T) {\n  y = 1;\n  TerminateTask();\n}\n"],
+        "refused C RULE C2 at 2:3\n",
+    ),
+    (
+        OIL,
+        &["void f() { f(); }\nTASK(T) { TerminateTask(); }\n"],
+        "refused C RULE S6 at 1:12\n",
+    ),
+    (
+        OIL,
+        &["uint8_t g;\nTASK(T) {\n  g = ActivateTask(T);\n}\n"],
+        "refused C RULE C11 at 3:7\n",
+    ),
+    (OIL, &["uint8_t b[65];\n"], "refused C RULE C6 at 1:11\n"),
+    (OIL, &["uint8_t x"], "refused C END at 1:10\n"),
+    (OIL, &["uint8_t x;\nTA"], "refused C TOKEN at 2:1\n"),
 ];
 
 fn refused() -> &'static [Refused] {
