@@ -16,7 +16,7 @@ echo "check_rules: chk_base app_model c_parse c_types static_rules sqlite_items"
 cp "$here/check_rules.txt" "$work/crates/check_rules/src/main.rt"
 cd "$work/crates/check_rules"
 # functions, calls in each, how far on the called one stands, bodies that call the first one, and 1 for a cycle
-for words in "64 16 1 1 0" "64 16 1 1 1" "64 800 1 1 1" "64 800 63 1 1" "64 1 1 12000 0" "6500 4 1 1 0" "6500 4 6499 1 1" "13000 1 1 1 0" "6500 1 1 6500 0" "1 0 1 20000 0"; do
+for words in "64 16 1 1 0" "64 16 1 1 1" "64 800 1 1 1" "64 800 63 1 1" "64 1 1 2000 0" "1000 4 1 1 0" "1000 4 999 1 1" "1000 1 1 1000 0" "1 0 1 5000 0"; do
   echo "$words:"
   # shellcheck disable=SC2086
   rt try -- $words

@@ -5,7 +5,7 @@ use Rattle.std.proofs.lemmas.Bool.{true≢false}
 use Rattle.std.proofs.lemmas.List.{append-nil, take_more, map-append}
 use Rattle.std.proofs.lemmas.List.Concat.{flat_map-append}
 use Rattle.c_rules.specs.declared.first.Fault.{Fault}
-use Rattle.c_rules.specs.First.{is_before, sooner, first_of}
+use Rattle.c_rules.specs.First.{is_before, first_of}
 use Rattle.c_rules.proofs.Firsts.{first_of_append}
 use Rattle.std.specs.Option.{option_map}
 use Rattle.std.specs.List.{slice_get}

@@ -1,15 +1,15 @@
 -- Functions that are found one after another.
-use Rattle.std.proofs.Common.{◌≡◌, ℕ, ◌+◌, ◌<◌, ◌≤◌, ◌==◌, Bool, true, false, ◌&&◌, ◌||◌, List, [], ◌∷◌, ◌++◌, ◌⊎◌, inl, inr, length, get_or, set, take, replicate, refl, sym, ap, subst, ◌∙◌, arith}
-use Rattle.std.specs.List.{list_any, flat_map}
+use Rattle.std.proofs.Common.{◌≡◌, ℕ, ◌+◌, ◌<◌, ◌≤◌, ◌==◌, Bool, true, false, ◌||◌, List, [], ◌∷◌, ◌++◌, ◌⊎◌, inl, inr, length, get_or, set, take, replicate, refl, sym, ap, subst, ◌∙◌, arith}
+use Rattle.std.specs.List.{flat_map}
 use Rattle.std.proofs.lemmas.List.Concat.{flat_map-append}
-use Rattle.std.proofs.lemmas.Bool.{cases_eq, or_left, or_right, eq-eqb, ne_eqb, false≢true}
+use Rattle.std.proofs.lemmas.Bool.{cases_eq, or_left, or_right, eq-eqb, ne_eqb}
 use Rattle.std.proofs.lemmas.List.{append-nil, take_more, length-set, length-replicate, get_or-set_same, get_or-set_other, get_or-replicate}
 use Rattle.std.proofs.lemmas.List.Folds.{list_any-append, list_any_more}
 use Rattle.app_model.specs.Levels.{has_number}
 use Rattle.static_rules.specs.declared.site.Site.{Site}
-use Rattle.static_rules.specs.Chains.{is_call_of, calls, body, any_below}
+use Rattle.static_rules.specs.Chains.{is_call_of, calls, body}
 use Rattle.static_rules.specs.Found.{IsTable, Finds}
-use Rattle.static_rules.proofs.Bounds.{or_false, or_assoc, any_more}
+use Rattle.static_rules.proofs.Bounds.{or_false, or_assoc}
 
 -- nothing is found
 pub finds_nothing : (flags : List Bool) (fresh : List ℕ) (test : ℕ → Bool) → ((g : ℕ) → test g ≡ false) → Finds flags fresh flags fresh test

@@ -1,9 +1,9 @@
 -- A chain of calls need not have more calls than there are functions.
-use Rattle.std.proofs.Common.{◌≡◌, ℕ, zero, suc, ◌+◌, ◌<◌, ◌≤◌, Bool, true, false, ◌&&◌, ◌||◌, cond, List, ◌⊎◌, inl, inr, length, refl, sym, ap, ◌∙◌, arith}
-use Rattle.std.proofs.lemmas.Bool.{cases_lt, or_left, or_right, and_parts, false≢true}
+use Rattle.std.proofs.Common.{◌≡◌, ℕ, zero, suc, ◌+◌, ◌<◌, ◌≤◌, Bool, true, false, ◌&&◌, cond, List, ◌⊎◌, inl, inr, length, refl, sym, ap, ◌∙◌, arith}
+use Rattle.std.proofs.lemmas.Bool.{cases_lt, and_parts, false≢true}
 use Rattle.static_rules.specs.declared.site.Site.{Site}
 use Rattle.static_rules.specs.Chains.{calls, body, any_below, called_after, reaches}
-use Rattle.static_rules.proofs.Bounds.{any_more, any_at, any_some}
+use Rattle.static_rules.proofs.Bounds.{any_at, any_some}
 use Rattle.static_rules.proofs.Reaching.{after_more, called_next}
 
 -- how many numbers below a bound pass a test

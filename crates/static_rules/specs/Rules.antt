@@ -1,7 +1,6 @@
 -- The rules S1 to S14: the faults that are in a typed unit, for an application.
 use Rattle.std.specs.Prelude.{ℕ, ◌+◌, ◌-◌, ◌==◌, nat_lt, Bool, true, false, not, ◌&&◌, ◌||◌, if◌then◌else◌, List, [], ◌∷◌, ◌++◌, length, map, slice_get, Option, Some, None, is_some}
 use Rattle.std.specs.List.{list_any, flat_map}
-use Rattle.chk_base.specs.declared.place.Place.{Place}
 use Rattle.chk_base.specs.declared.text.Name.{Name}
 use Rattle.app_model.specs.declared.app.App.{App}
 use Rattle.app_model.specs.declared.app.Entity.{Entity}
@@ -20,7 +19,7 @@ use Rattle.oil_rules.specs.Names.{repeats}
 use Rattle.static_rules.specs.declared.site.Site.{Site}
 use Rattle.static_rules.specs.declared.site.Site.TheVariants as sites
 use Rattle.static_rules.specs.Sites.{sites_of, function_bodies}
-use Rattle.static_rules.specs.Chains.{is_call_of, body, any_below, all_below, called_after, reaches, reached_sites}
+use Rattle.static_rules.specs.Chains.{body, any_below, all_below, called_after, reaches, reached_sites}
 
 -- the rule on the name of a body of this kind that is no object: S1 or S2
 abbrev pub nameless_rule : EntityKind → ℕ

@@ -1,4 +1,4 @@
-use Rattle.std.proofs.Common.{◌≡◌, length}
+use Rattle.std.proofs.Common.{◌≡◌}
 use Rattle.c_rules.specs.First.{first_of}
 use Rattle.static_rules.specs.Chains.{all_below}
 use Rattle.static_rules.specs.Rules.{returning_faults}
