@@ -1,0 +1,3 @@
+pub mod Depicting
+pub mod Deciding
+pub mod Looking

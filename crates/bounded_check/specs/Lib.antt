@@ -1,0 +1,2 @@
+pub mod Depicts
+pub mod Verdicts
