@@ -480,7 +480,7 @@ const REFUSED: [Refused; 33] = [
     (
         OIL,
         &["uint8_t g;\nTASK(T) {\n  g = ActivateTask(T);\n}\n"],
-        "refused C RULE C11 at 3:7\n",
+        "refused C RULE C16 at 3:7\n",
     ),
     (OIL, &["uint8_t b[65];\n"], "refused C RULE C6 at 1:11\n"),
     (OIL, &["uint8_t x"], "refused C END at 1:10\n"),
