@@ -1,6 +1,6 @@
 // The text of a small log with each ending.
 use crate::rest::{Ending, write_rest};
-use chk_base::desk::PutFault;
+use chk_base::desk::{Desk, PutFault};
 use chk_base::mem_desk::MemDesk;
 use chk_base::text::Text;
 use clause_form::assignment::Assignment;
