@@ -7,6 +7,4 @@ pub mod law;
 pub mod rest;
 mod spill;
 mod streams;
-#[cfg(test)]
-mod tests;
 mod tokens;
