@@ -351,10 +351,6 @@ const REPLAYS: [Replayed; 6] = [
     (&["check", "s"], None),
 ];
 
-fn replays() -> &'static [Replayed] {
-    &REPLAYS
-}
-
 fn is_replay(alloc: Global, line: &[&str], mode: Option<&str>) -> Result<bool, AllocError> {
     match (read_words(alloc, &words_of(alloc, line)?)?, mode) {
         (Some(Asked::Replay(replay)), Some(mode)) => Ok(
@@ -370,7 +366,7 @@ fn is_replay(alloc: Global, line: &[&str], mode: Option<&str>) -> Result<bool, A
 
 #[test]
 fn takes_exactly_the_lines_of_a_replay(rt: HostRuntime) -> Result<(), Fail> {
-    for (line, mode) in replays() {
+    for (line, mode) in REPLAYS.as_slice() {
         assert!(rt; is_replay(rt.alloc(), line, *mode)?);
     }
     Ok(())
