@@ -1,5 +1,5 @@
 -- A certificate of an application's run, and what of it is appended to a file.
-use Rattle.std.specs.Prelude.{◌≡◌, ℕ, ◌≤◌, if◌then◌else◌, List, length, take, Option, Some, Result, Ok, Err, IfOk, OnErr, option_map}
+use Rattle.std.specs.Prelude.{◌≡◌, ℕ, ◌≤◌, if◌then◌else◌, List, length, take, Some, Result, IfOk, OnErr, option_map}
 use Rattle.app_model.specs.declared.app.App.{App}
 use Rattle.bounded_check.specs.declared.decide.Verdict.{Verdict}
 use Rattle.bounded_check.specs.declared.decide.Verdict.TheVariants as verdict
