@@ -146,4 +146,4 @@ word_in t n = by t.width
     by w.W1 = if n == 0 then 0 else 1
     by w.W8 = n % 2 ^ 8
     by w.W16 = n % 2 ^ 16
-    by w.W32 = n
+    by w.W32 = n % 2 ^ 32

@@ -3,7 +3,7 @@ use Rattle.std.proofs.Common.{arith, inl, inr, ◌≡◌, ◌≢◌, ℕ, Bool, 
 use Rattle.clap.specs.declared.error.Error.{Error}
 use Rattle.clap.specs.declared.error.kind.ErrorKind.TheVariants.{OutOfMemory}
 use Rattle.clap.specs.Words.{App, Row, Kinds, HasKind, kind_of, fault_of, matches_of, is_simple, is_simple_and_free}
-use Rattle.command_words.specs.Lines.{PlainLine, app_for, is_plain, faults_for, rows_for, run_line, replay_line, check_line}
+use Rattle.command_words.specs.Lines.{PlainLine, app_for, is_plain, faults_for, rows_for, run_line, replay_line, check_line, show_line, make_line}
 
 both : (a b : Bool) → a && b ≡ true → (a ≡ true) × (b ≡ true)
 both true true is = (refl, refl)
@@ -38,3 +38,11 @@ replay_is_plain = refl
 pub check_is_plain : is_plain check_line ≡ true
 unfolding is_plain
 check_is_plain = refl
+
+pub show_is_plain : is_plain show_line ≡ true
+unfolding is_plain
+show_is_plain = refl
+
+pub make_is_plain : is_plain make_line ≡ true
+unfolding is_plain
+make_is_plain = refl

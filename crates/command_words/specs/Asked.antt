@@ -3,9 +3,11 @@ use Rattle.std.specs.Prelude.{◌≡◌, ◌≢◌, ℕ, ◌≤◌, ◌^◌, Lis
 use Rattle.clap.specs.Words.{Row, first_of}
 use Rattle.command_words.specs.declared.asked.Asked.{Asked}
 use Rattle.command_words.specs.declared.asked.Asked.TheVariants as asked
+use Rattle.command_words.specs.declared.asked.MakeWords.{MakeWords}
 use Rattle.command_words.specs.declared.asked.ReplayWords.{ReplayWords}
 use Rattle.command_words.specs.declared.asked.RunWords.{RunWords}
-use Rattle.command_words.specs.Lines.{PlainLine, run_line, replay_line, check_line, faults_for, rows_for}
+use Rattle.command_words.specs.declared.asked.ShowWords.{ShowWords}
+use Rattle.command_words.specs.Lines.{PlainLine, run_line, replay_line, check_line, show_line, make_line, faults_for, rows_for}
 
 -- `clap` takes the words, which are texts, by this line, whose name comes first
 pub record AreOf (line : PlainLine) (words : List (List ℕ)) : Type 0 where
@@ -37,7 +39,7 @@ pub record AreNames (rows : List Row) (oil c cert : List ℕ) : Type 0 where
   pub not_oil : cert ≢ oil
   pub not_c : cert ≢ c
 
--- the bounds of a run: 1 to 512 turns, no arrival, and the budget
+-- the bounds of a run, also of one that is made: 1 to 512 turns, no arrival, and the budget
 pub record AreBounds (rows : List Row) (turns arrivals budget : ℕ) : Type 0 where
   pub turns_is : IsNumber 1 512 (first_of (codes "turns") rows) turns
   pub arrivals_is : IsNumber 0 0 (first_of (codes "arrivals") rows) arrivals
@@ -71,11 +73,35 @@ pub record IsCheck (words : List (List ℕ)) (cert : List ℕ) : Type 0 where
   pub of : AreOf check_line words
   pub cert_is : first_of (codes "CERT") (rows_for check_line words) ≡ Some cert
 
+-- what was found is that of this show: the names of both texts, and the mode, if one is named
+pub record IsShowOf (rows : List Row) (show : ShowWords) : Type 0 where
+  pub oil : first_of (codes "APP.oil") rows ≡ Some show.oil
+  pub c : first_of (codes "APP.c") rows ≡ Some show.c
+  pub mode : first_of (codes "mode") rows ≡ show.mode
+
+-- the words are those of this show
+pub record IsShow (words : List (List ℕ)) (show : ShowWords) : Type 0 where
+  pub of : AreOf show_line words
+  pub is : IsShowOf (rows_for show_line words) show
+
+-- what was found is that of a run of the application that is made of this number, below 2^32
+pub record IsMakeOf (rows : List Row) (make : MakeWords) : Type 0 where
+  pub number : IsNumber 0 4294967295 (first_of (codes "N") rows) make.number
+  pub bounds : AreBounds rows make.turns make.arrivals make.budget
+  pub cert : first_of (codes "cert") rows ≡ Some make.cert
+
+-- the words are those of a run of the application that is made of this number
+pub record IsMake (words : List (List ℕ)) (make : MakeWords) : Type 0 where
+  pub of : AreOf make_line words
+  pub is : IsMakeOf (rows_for make_line words) make
+
 -- the words ask for this
 abbrev pub IsAsked : List (List ℕ) → Asked → Type 0
 IsAsked words (asked.Run run) = IsRun words run
 IsAsked words (asked.Replay replay) = IsReplay words replay
 IsAsked words (asked.Check cert) = IsCheck words cert
+IsAsked words (asked.Show show) = IsShow words show
+IsAsked words (asked.Make make) = IsMake words make
 
 -- the words are those of no command
 abbrev pub AreNone : List (List ℕ) → Type 0

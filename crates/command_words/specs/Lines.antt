@@ -5,7 +5,7 @@ use Rattle.clap.specs.Words.{App, Row, Rule, Kinds, new_app, new_rule, with_rule
 use Rattle.clap.specs.declared.builder.ArgAction.TheVariants.{Set}
 use Rattle.command_words.specs.declared.line.Line.{Line}
 use Rattle.command_words.specs.declared.line.Order.{Order}
-use Rattle.command_words.specs.declared.line.Order.TheVariants.{Run, Replay, Check}
+use Rattle.command_words.specs.declared.line.Order.TheVariants.{Run, Replay, Check, Show, Make}
 use Rattle.command_words.specs.declared.line.Kind.{Kind}
 use Rattle.command_words.specs.declared.line.Kind.TheVariants.{Positional, Required, Optional}
 
@@ -29,6 +29,7 @@ plain_line line =
       optional = plain_texts line.optional.now;
     }
 
+-- the line of `run`
 abbrev pub run_line : PlainLine
 run_line =
     record {
@@ -38,6 +39,7 @@ run_line =
       optional = codes "budget" ∷ codes "mode" ∷ [];
     }
 
+-- the line of `replay`
 abbrev pub replay_line : PlainLine
 replay_line =
     record {
@@ -47,14 +49,37 @@ replay_line =
       optional = codes "mode" ∷ [];
     }
 
+-- the line of `check`
 abbrev pub check_line : PlainLine
 check_line = record { name = codes "check"; positionals = codes "CERT" ∷ []; required = []; optional = [] }
+
+-- the line of `show`
+abbrev pub show_line : PlainLine
+show_line =
+    record {
+      name = codes "show";
+      positionals = codes "APP.oil" ∷ codes "APP.c" ∷ [];
+      required = [];
+      optional = codes "mode" ∷ [];
+    }
+
+-- the line of `make`
+abbrev pub make_line : PlainLine
+make_line =
+    record {
+      name = codes "make";
+      positionals = codes "N" ∷ [];
+      required = codes "turns" ∷ codes "arrivals" ∷ codes "cert" ∷ [];
+      optional = codes "budget" ∷ [];
+    }
 
 -- the table of the commands
 abbrev pub line_of : Order → PlainLine
 line_of Run = run_line
 line_of Replay = replay_line
 line_of Check = check_line
+line_of Show = show_line
+line_of Make = make_line
 
 -- the argument takes one text; it is required, and without a name of its own where it is a positional
 abbrev pub rule_for : Kind → List ℕ → Rule

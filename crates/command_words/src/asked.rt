@@ -1,7 +1,7 @@
 // What the words of a command line ask for.
 ghost use Rattle.std.specs.Prelude.{◌≡◌, ℕ, List, All, IsUtf8, Some, Option, IfOk, IfSome, IfNone, slice_get, codes, option_map};
 ghost use Rattle.clap.specs.Words.{found_of, rows_of, first_of};
-ghost use Rattle.command_words.specs.Asked.{AreNames, AreBounds, IsBudget, IsRunOf, IsRun, IsReplayOf, IsReplay, IsCheck, IsAsked, AreNone};
+ghost use Rattle.command_words.specs.Asked.{AreNames, AreBounds, IsBudget, IsRunOf, IsRun, IsReplayOf, IsReplay, IsCheck, IsShowOf, IsShow, IsMakeOf, IsMake, IsAsked, AreNone};
 ghost use Rattle.command_words.specs.Lines.{plain_texts};
 
 use crate::line::{Line, Order, line_of};
@@ -34,12 +34,33 @@ pub struct ReplayWords {
     pub mode: Option<Text>,
 }
 
-/// A run, the replay of a schedule, or a check of the certificate of this name.
+/// What the words of `show` ask for: the names of both texts, and the application mode, if one is named.
+#[derive(Drop)]
+pub struct ShowWords {
+    pub oil: Text,
+    pub c: Text,
+    pub mode: Option<Text>,
+}
+
+/// What the words of `make` ask for: the number that an application is made of, the bounds of its run as those of `run`, and the name of
+/// the certificate.
+#[derive(Drop)]
+pub struct MakeWords {
+    pub number: u32,
+    pub turns: u16,
+    pub arrivals: u8,
+    pub cert: Text,
+    pub budget: u64,
+}
+
+/// A run, the replay of a schedule, a check of the certificate of this name, a show of the code, or a run of an application that is made.
 #[derive(Drop)]
 pub enum Asked {
     Run(RunWords),
     Replay(ReplayWords),
     Check(Text),
+    Show(ShowWords),
+    Make(MakeWords),
 }
 
 // The names of the files of a run.
@@ -156,6 +177,45 @@ fn replay_in(alloc: Global, matches: &ArgMatches<'_>) -> Result<Option<ReplayWor
     }))
 }
 
+fn show_in(alloc: Global, matches: &ArgMatches<'_>) -> Result<Option<ShowWords>, AllocError>
+    ensures found { IfOk result (λ found. IfSome found (IsShowOf (rows_of (found_of matches.now)))) }
+    ensures none { IfOk result (λ found. IfNone found ((show : ShowWords) → IsShowOf (rows_of (found_of matches.now)) show → ⊥)) }
+{
+    let Some(oil) = value(matches, "APP.oil") else {
+        return Ok(None);
+    };
+    let Some(c) = value(matches, "APP.c") else {
+        return Ok(None);
+    };
+    Ok(Some(ShowWords {
+        oil: own(alloc, oil)?,
+        c: own(alloc, c)?,
+        mode: own_if_given(alloc, value(matches, "mode"))?,
+    }))
+}
+
+fn make_in(alloc: Global, matches: &ArgMatches<'_>) -> Result<Option<MakeWords>, AllocError>
+    ensures found { IfOk result (λ found. IfSome found (IsMakeOf (rows_of (found_of matches.now)))) }
+    ensures none { IfOk result (λ found. IfNone found ((make : MakeWords) → IsMakeOf (rows_of (found_of matches.now)) make → ⊥)) }
+{
+    let Some(number) = number_within(value(matches, "N"), 0, 4_294_967_295) else {
+        return Ok(None);
+    };
+    let Some(bounds) = bounds_in(matches) else {
+        return Ok(None);
+    };
+    let Some(cert) = value(matches, "cert") else {
+        return Ok(None);
+    };
+    Ok(Some(MakeWords {
+        number: number as u32,
+        turns: bounds.turns,
+        arrivals: bounds.arrivals,
+        cert: own(alloc, cert)?,
+        budget: bounds.budget,
+    }))
+}
+
 // What texts ask for whose first is `run`.
 fn run_asked<'a>(alloc: Global, texts: &'a [&'a str]) -> Result<Option<Asked>, AllocError>
     requires text { All IsUtf8 (plain_texts texts.now) }
@@ -204,6 +264,38 @@ fn check_asked<'a>(alloc: Global, texts: &'a [&'a str]) -> Result<Option<Asked>,
     }
 }
 
+// What texts ask for whose first is `show`.
+fn show_asked<'a>(alloc: Global, texts: &'a [&'a str]) -> Result<Option<Asked>, AllocError>
+    requires text { All IsUtf8 (plain_texts texts.now) }
+    requires name { slice_get (plain_texts texts.now) 0 ≡ Some (codes "show") }
+    ensures found { IfOk result (λ found. IfSome found (IsAsked (plain_texts texts.now))) }
+    ensures none { IfOk result (λ found. IfNone found ((show : ShowWords) → IsShow (plain_texts texts.now) show → ⊥)) }
+{
+    let Some(matches) = matches_for(alloc, line_of(Order::Show), texts)? else {
+        return Ok(None);
+    };
+    match show_in(alloc, &matches)? {
+        Some(show) => Ok(Some(Asked::Show(show))),
+        None => Ok(None),
+    }
+}
+
+// What texts ask for whose first is `make`.
+fn make_asked<'a>(alloc: Global, texts: &'a [&'a str]) -> Result<Option<Asked>, AllocError>
+    requires text { All IsUtf8 (plain_texts texts.now) }
+    requires name { slice_get (plain_texts texts.now) 0 ≡ Some (codes "make") }
+    ensures found { IfOk result (λ found. IfSome found (IsAsked (plain_texts texts.now))) }
+    ensures none { IfOk result (λ found. IfNone found ((make : MakeWords) → IsMake (plain_texts texts.now) make → ⊥)) }
+{
+    let Some(matches) = matches_for(alloc, line_of(Order::Make), texts)? else {
+        return Ok(None);
+    };
+    match make_in(alloc, &matches)? {
+        Some(make) => Ok(Some(Asked::Make(make))),
+        None => Ok(None),
+    }
+}
+
 // What texts ask for.
 fn texts_asked<'a>(alloc: Global, texts: &'a [&'a str]) -> Result<Option<Asked>, AllocError>
     requires text { All IsUtf8 (plain_texts texts.now) }
@@ -217,6 +309,8 @@ fn texts_asked<'a>(alloc: Global, texts: &'a [&'a str]) -> Result<Option<Asked>,
         "run" => run_asked(alloc, texts),
         "replay" => replay_asked(alloc, texts),
         "check" => check_asked(alloc, texts),
+        "show" => show_asked(alloc, texts),
+        "make" => make_asked(alloc, texts),
         _ => Ok(None),
     }
 }

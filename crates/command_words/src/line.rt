@@ -21,6 +21,8 @@ pub enum Order {
     Run,
     Replay,
     Check,
+    Show,
+    Make,
 }
 
 /// How a command takes an argument.
@@ -53,6 +55,18 @@ pub fn line_of<'a>(order: Order) -> Line<'a>
             positionals: &["CERT"],
             required: &[],
             optional: &[],
+        },
+        Order::Show => Line {
+            name: "show",
+            positionals: &["APP.oil", "APP.c"],
+            required: &[],
+            optional: &["mode"],
+        },
+        Order::Make => Line {
+            name: "make",
+            positionals: &["N"],
+            required: &["turns", "arrivals", "cert"],
+            optional: &["budget"],
         },
     }
 }

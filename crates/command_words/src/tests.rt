@@ -372,6 +372,117 @@ fn takes_exactly_the_lines_of_a_replay(rt: HostRuntime) -> Result<(), Fail> {
     Ok(())
 }
 
+// A line of words, and the mode of the show that it asks for, empty where none is named; none where it asks for no show.
+const SHOWS: [Replayed; 5] = [
+    (&["show", "a.oil", "a.c"], Some("")),
+    (&["show", "a.oil", "--mode=M", "a.c"], Some("M")),
+    (&["show", "a.oil"], None),
+    (&["show", "a.oil", "a.c", "s"], None),
+    (&["show", "a.oil", "a.c", "--cert=f"], None),
+];
+
+fn is_show(alloc: Global, line: &[&str], mode: Option<&str>) -> Result<bool, AllocError> {
+    match (read_words(alloc, &words_of(alloc, line)?)?, mode) {
+        (Some(Asked::Show(show)), Some(mode)) => Ok(
+            is(Some(&show.oil), "a.oil")
+                && is(Some(&show.c), "a.c")
+                && is(show.mode.as_ref(), mode),
+        ),
+        (Some(Asked::Show(_)), None) => Ok(false),
+        (_, expected) => Ok(expected.is_none()),
+    }
+}
+
+#[test]
+fn takes_exactly_the_lines_of_a_show(rt: HostRuntime) -> Result<(), Fail> {
+    for (line, mode) in SHOWS.as_slice() {
+        assert!(rt; is_show(rt.alloc(), line, *mode)?);
+    }
+    Ok(())
+}
+
+// A line of words, and the number and the budget of the run that it asks for, if it asks for one of an application that is made.
+type Made = (&'static [&'static str], Option<(u32, u64)>);
+
+const MAKES: [Made; 10] = [
+    (
+        &["make", "0", "--turns=8", "--arrivals=0", "--cert=f"],
+        Some((0, 1_000_000)),
+    ),
+    (
+        &[
+            "make",
+            "--cert=f",
+            "--budget=7",
+            "--turns=8",
+            "--arrivals=0",
+            "4294967295",
+        ],
+        Some((4_294_967_295, 7)),
+    ),
+    (
+        &[
+            "make",
+            "4294967296",
+            "--turns=8",
+            "--arrivals=0",
+            "--cert=f",
+        ],
+        None,
+    ),
+    (
+        &["make", "01", "--turns=8", "--arrivals=0", "--cert=f"],
+        None,
+    ),
+    (
+        &["make", "+1", "--turns=8", "--arrivals=0", "--cert=f"],
+        None,
+    ),
+    (&["make", "--turns=8", "--arrivals=0", "--cert=f"], None),
+    (&["make", "1", "--turns=8", "--arrivals=0"], None),
+    (
+        &["make", "1", "--turns=513", "--arrivals=0", "--cert=f"],
+        None,
+    ),
+    (
+        &["make", "1", "2", "--turns=8", "--arrivals=0", "--cert=f"],
+        None,
+    ),
+    (
+        &[
+            "make",
+            "1",
+            "--turns=8",
+            "--arrivals=0",
+            "--cert=f",
+            "--mode=M",
+        ],
+        None,
+    ),
+];
+
+fn is_make(alloc: Global, line: &[&str], expected: Option<(u32, u64)>) -> Result<bool, AllocError> {
+    match (read_words(alloc, &words_of(alloc, line)?)?, expected) {
+        (Some(Asked::Make(make)), Some((number, budget))) => Ok(
+            make.number == number
+                && make.budget == budget
+                && make.turns == 8
+                && make.arrivals == 0
+                && is(Some(&make.cert), "f"),
+        ),
+        (Some(Asked::Make(_)), None) => Ok(false),
+        (_, expected) => Ok(expected.is_none()),
+    }
+}
+
+#[test]
+fn takes_exactly_the_lines_of_a_make(rt: HostRuntime) -> Result<(), Fail> {
+    for (line, expected) in MAKES.as_slice() {
+        assert!(rt; is_make(rt.alloc(), line, *expected)?);
+    }
+    Ok(())
+}
+
 #[test]
 fn refuses_a_word_that_is_no_text(rt: HostRuntime) -> Result<(), Fail> {
     let mut words = words_of(rt.alloc(), &["check"])?;

@@ -1,7 +1,10 @@
-pub mod Appended
-pub mod Cells
-pub mod Counted
-pub mod Expansion
-pub mod Joining
-pub mod Summed
-pub mod Walked
+pub mod Begins
+pub mod Exchanging
+pub mod Gathering
+pub mod Idle
+pub mod Limits
+pub mod Ordered
+pub mod Placed
+pub mod Starting
+pub mod Whole
+pub mod Zeros

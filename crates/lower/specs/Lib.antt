@@ -1,11 +1,4 @@
-pub mod Acting
-pub mod Guards
-pub mod Expanded
-pub mod Firsts
-pub mod Fitting
-pub mod Joined
-pub mod Pieces
-pub mod Sized
-pub mod Steps
-pub mod Trees
-pub mod Within
+pub mod EntityCodes
+pub mod LoweredCode
+pub mod Ready
+pub mod Zeros

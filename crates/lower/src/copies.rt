@@ -1,100 +1,124 @@
-// Copies of expressions, and tests under guards.
-ghost use Rattle.std.specs.Prelude.{◌≡◌, ◌+◌, IfOk, option_map};
-ghost use Rattle.chk_base.specs.Term.{term_of};
-ghost use Rattle.step_ir.specs.Points.{target_of};
-ghost use Rattle.lower_law.specs.Items.{guarded};
-ghost use Rattle.lower.specs.Guards.{guard_of, guard_term};
+// Points under their numbers: the first that runs is the first of all.
+ghost use Rattle.std.specs.Prelude.{◌≡◌, ◌<◌, ◌≤◌, ◌^◌, ◌+◌, IfOk, OnOk, length, map, option_map};
+ghost use Rattle.step_ir.specs.Points.{plain_action, plain_of, return_of, set_of};
+ghost use Rattle.fit_law.specs.Codes.{IsExchanged};
+ghost use Rattle.lower.specs.EntityCodes.{exchanged_front};
 
 use chk_base::expr::Expr;
+use chk_base::sets::{Set, Sets};
+use lower_pieces::copies::{copy, copy_target};
+use lower_pieces::steps::{copy_nexts, copy_traps, number};
 use std::alloc::{AllocError, Global};
-use step_ir::code::Target;
+use step_ir::code::{Action, Point, Points};
 
-/// All of these aren't 0.
-#[derive(Clone, Copy)]
-pub enum Guard<'a> {
-    Always,
-    When(&'a Expr, &'a Guard<'a>),
-}
-
-/// The same expression again.
-pub fn copy(alloc: Global, e: &Expr) -> Result<Expr, AllocError>
-    ensures { IfOk result (λ c. term_of c ≡ term_of e.now) }
+// The same set again.
+fn copy_set(alloc: Global, set: &Set) -> Result<Set, AllocError>
+    ensures { IfOk result (λ s. set_of s ≡ set_of set.now) }
 {
-    Ok(match e {
-        Expr::Const(n) => Expr::Const(*n),
-        Expr::Cell { at, signed } => Expr::Cell {
-            at: *at,
-            signed: *signed,
-        },
-        Expr::Pick {
-            base,
-            len,
-            signed,
-            index,
-        } => Expr::Pick {
-            base: *base,
-            len: *len,
-            signed: *signed,
-            index: Box::new(alloc, copy(alloc, index)?)?,
-        },
-        Expr::Un(op, a) => Expr::Un(*op, Box::new(alloc, copy(alloc, a)?)?),
-        Expr::Bin(op, a, b) => Expr::Bin(
-            *op,
-            Box::new(alloc, copy(alloc, a)?)?,
-            Box::new(alloc, copy(alloc, b)?)?,
-        ),
-        Expr::Choose(c, a, b) => Expr::Choose(
-            Box::new(alloc, copy(alloc, c)?)?,
-            Box::new(alloc, copy(alloc, a)?)?,
-            Box::new(alloc, copy(alloc, b)?)?,
-        ),
+    Ok(Set {
+        cell: set.cell,
+        value: copy(alloc, &set.value)?,
     })
 }
 
-/// The same again, where there is one.
-pub fn copy_if(alloc: Global, e: &Option<Expr>) -> Result<Option<Expr>, AllocError>
-    ensures { IfOk result (λ c. option_map term_of c ≡ option_map term_of e.now) }
+// The same sets again.
+#[tactic(auto, using(crate::proofs::Exchanging::sets_more, std::proofs::Common::append_assoc))]
+fn copy_sets(alloc: Global, sets: &Sets) -> Result<Sets, AllocError>
+    ensures { IfOk result (λ s. map set_of s ≡ map set_of sets.now) }
 {
-    match e {
+    let mut copied = Sets::new(alloc);
+    for one in sets.items() {
+        copied.push(copy_set(alloc, one)?)?;
+    }
+    Ok(copied)
+}
+
+// The same set of a return again.
+fn copy_return(alloc: Global, set: &Option<(u16, Expr)>) -> Result<Option<(u16, Expr)>, AllocError>
+    ensures { IfOk result (λ s. option_map return_of s ≡ option_map return_of set.now) }
+{
+    match set {
         None => Ok(None),
-        Some(e) => Ok(Some(copy(alloc, e)?)),
+        Some((cell, value)) => Ok(Some((*cell, copy(alloc, value)?))),
     }
 }
 
-/// The same target again.
-pub fn copy_target(alloc: Global, t: &Target) -> Result<Target, AllocError>
-    ensures { IfOk result (λ c. target_of c ≡ target_of t.now) }
+// The same action again.
+fn copy_action(alloc: Global, action: &Action) -> Result<Action, AllocError>
+    ensures { IfOk result (λ a. plain_action a ≡ plain_action action.now) }
 {
-    Ok(Target {
-        base: t.base,
-        len: t.len,
-        index: copy_if(alloc, &t.index)?,
+    Ok(match action {
+        Action::Read { target, into } => Action::Read {
+            target: copy_target(alloc, target)?,
+            into: *into,
+        },
+        Action::Write { target, value } => Action::Write {
+            target: copy_target(alloc, target)?,
+            value: copy(alloc, value)?,
+        },
+        Action::Local { cell, value } => Action::Local {
+            cell: *cell,
+            value: copy(alloc, value)?,
+        },
+        Action::Branch(value) => Action::Branch(copy(alloc, value)?),
+        Action::Input(cell) => Action::Input(*cell),
+        Action::Call { function, sets } => Action::Call {
+            function: *function,
+            sets: copy_sets(alloc, sets)?,
+        },
+        Action::Return(set) => Action::Return(copy_return(alloc, set)?),
+        Action::Service(service) => Action::Service(*service),
+        Action::Assert(value) => Action::Assert(copy(alloc, value)?),
+        Action::End => Action::End,
     })
 }
 
-/// The test where the guard holds, and else 0.
-pub fn guard_test(alloc: Global, guard: &Guard<'_>, test: Expr) -> Result<Expr, AllocError>
-    ensures { IfOk result (λ e. term_of e ≡ guarded (guard_of guard.now) (term_of test)) }
+// The same point again.
+fn copy_point(alloc: Global, point: &Point) -> Result<Point, AllocError>
+    ensures { IfOk result (λ p. plain_of p ≡ plain_of point.now) }
 {
-    match guard {
-        Guard::Always => Ok(test),
-        Guard::When(g, more) => {
-            let inner = guard_test(alloc, more, test)?;
-            Ok(Expr::Choose(
-                Box::new(alloc, copy(alloc, g)?)?,
-                Box::new(alloc, inner)?,
-                Box::new(alloc, Expr::Const(0))?,
-            ))
+    Ok(Point {
+        place: point.place,
+        action: copy_action(alloc, &point.action)?,
+        traps: copy_traps(alloc, &point.traps)?,
+        next: copy_nexts(alloc, &point.next)?,
+    })
+}
+
+// The point at a position behind those that there are.
+#[tactic(auto, using(crate::proofs::Exchanging::none_more))]
+fn push_copy(
+    alloc: Global,
+    copied: &mut Points,
+    points: &Points,
+    first: u16,
+    at: usize,
+) -> Result<(), AllocError>
+    requires few { at < 2 ^ 16 }
+    requires so_far { map plain_of copied.old ≡ exchanged_front first (map plain_of points.now) at }
+    ensures { OnOk result (map plain_of copied.new ≡ exchanged_front first (map plain_of points.now) (at + 1)) }
+{
+    match points.get(number(first, at as u16) as usize) {
+        None => Ok(()),
+        Some(point) => {
+            copied.push(copy_point(alloc, point)?)?;
+            Ok(())
         }
     }
 }
 
-/// The guard as one expression, where it has any.
-pub fn joined_guard(alloc: Global, guard: &Guard<'_>) -> Result<Option<Expr>, AllocError>
-    ensures { IfOk result (λ g. option_map term_of g ≡ guard_term (guard_of guard.now)) }
+// The points under their numbers: those at 0 and at `first` change places.
+pub(crate) fn reordered(alloc: Global, points: Points, first: u16) -> Result<Points, AllocError>
+    requires within { first < length points }
+    requires few { length points ≤ 2 ^ 16 }
+    ensures { IfOk result (λ p. IsExchanged first (map plain_of points) (map plain_of p)) }
 {
-    match guard {
-        Guard::Always => Ok(None),
-        Guard::When(_, _) => Ok(Some(guard_test(alloc, guard, Expr::Const(1))?)),
+    if first == 0 {
+        return Ok(points);
     }
+    let mut copied = Points::new(alloc);
+    for at in 0..points.len() {
+        push_copy(alloc, &mut copied, &points, first, at)?;
+    }
+    Ok(copied)
 }

@@ -1,16 +1,8 @@
-//! Typed units of C become points: their expressions over cells, what a thing reads and tests, and the points of statements.
+//! Checked units of C become codes: their cells, and the points of each entity with every call expanded at its place.
 #![tactic(auto)]
 
-pub mod actions;
-pub mod asking;
-pub mod copies;
-pub mod entries;
-pub mod evaluation;
-pub mod law;
-pub mod pieces;
-pub mod sizes;
-pub mod steps;
-#[cfg(test)]
-mod tests;
-pub mod translation;
-pub mod tree;
+mod copies;
+mod entities;
+pub mod lower;
+mod starts;
+mod trees;

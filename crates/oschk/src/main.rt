@@ -4,6 +4,10 @@
 #[cfg(test)]
 mod replay_tests;
 #[cfg(test)]
+mod row_tests;
+#[cfg(test)]
+mod show_tests;
+#[cfg(test)]
 mod solver_tests;
 #[cfg(test)]
 mod tests;

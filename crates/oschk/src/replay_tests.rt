@@ -160,8 +160,8 @@ const REPLAYS: [Replay; 25] = [
         TWO_MODES,
         HOLDS,
         &["go\ngo\ngo\ngo\n"],
-        3,
-        "refused FORM OIL at 2:5\n",
+        8,
+        "oschk replay\nnot permitted 1\nidle\n",
     ),
     (
         "replay --mode O app.oil app.c app.sched",

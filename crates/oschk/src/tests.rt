@@ -69,7 +69,8 @@ pub struct Case {
     pub out_fails_at: u64,
 }
 
-fn run(words: &'static str, oil: Parts, c: Parts) -> Case {
+/// The words of a run with these texts.
+pub fn run(words: &'static str, oil: Parts, c: Parts) -> Case {
     Case {
         words,
         oil,
@@ -79,6 +80,11 @@ fn run(words: &'static str, oil: Parts, c: Parts) -> Case {
         desk_fails_at: 0,
         out_fails_at: 0,
     }
+}
+
+/// The words of a show with these texts.
+pub fn show(oil: Parts, c: Parts) -> Case {
+    run("show app.oil app.c", oil, c)
 }
 
 fn check(cert: Parts) -> Case {
@@ -125,7 +131,7 @@ pub struct Ended {
     pub text: Text,
 }
 
-fn text(alloc: Global, parts: &[&str]) -> Result<Text, AllocError> {
+pub fn text(alloc: Global, parts: &[&str]) -> Result<Text, AllocError> {
     let mut text = Text::new(alloc);
     for part in parts {
         text.append(part.as_bytes())?;
@@ -183,6 +189,24 @@ pub fn result_of(alloc: Global, case: &Case) -> Result<Ended, AllocError> {
     let desk = desk_of(alloc, case)?;
     let out = out_of(alloc, case)?;
     called(alloc, &words, desk, out)
+}
+
+/// The result of words over an OIL text and a C text.
+pub fn called_with(
+    alloc: Global,
+    words: &'static str,
+    oil: Parts,
+    c: &Text,
+) -> Result<Ended, AllocError> {
+    let words_alone = run(words, oil, &[]);
+    let mut desk = desk_of(alloc, &words_alone)?;
+    desk.put(&text(alloc, &["app.c"])?, c)?;
+    called(
+        alloc,
+        &words_of(alloc, words)?,
+        desk,
+        out_of(alloc, &words_alone)?,
+    )
 }
 
 // Words, an OIL text, a C text, the number that the program ends with, and what it writes.
@@ -329,7 +353,7 @@ fn options_stand_before_between_and_after_the_names(rt: HostRuntime) -> Result<(
 // An OIL text, a C text, and the line that refuses them.
 type Refused = (Parts, Parts, &'static str);
 
-const REFUSED: [Refused; 33] = [
+const REFUSED: [Refused; 29] = [
     (&[], &[], "refused OIL END at 1:1\n"),
     (
         &["OIL_VERSION = \"2.5\";\nCPU c {\nTASK T { PRIORITY = ; };\n};\n"],
@@ -375,15 +399,6 @@ const REFUSED: [Refused; 33] = [
         "refused OIL RULE A14 at 5:54\n",
     ),
     (
-        &[
-            HEAD,
-            "TASK T { PRIORITY = 1; SCHEDULE = FULL; ACTIVATION = 2; AUTOSTART = TRUE { APPMODE = M; }; };\n",
-            TAIL,
-        ],
-        HOLDS,
-        "refused FORM OIL at 2:5\n",
-    ),
-    (
         &[HEAD, TASK, LATER, TAIL],
         HOLDS,
         "refused C RULE S4 at 7:1\n",
@@ -396,23 +411,6 @@ const REFUSED: [Refused; 33] = [
     (OIL, &["uint8_t x;\n@\n"], "refused C BYTE at 2:1\n"),
     (OIL, &["#if 1\n"], "refused C DIRECTIVE at 1:1\n"),
     (OIL, &[], "refused C RULE S4 at 1:1\n"),
-    (
-        OIL,
-        &[
-            "uint8_t x;\nTASK(T) {\n  x = 256;\n",
-            "  assert(x == 1);\n",
-            "  TerminateTask();\n}\n",
-        ],
-        "refused FORM C at 3:7\n",
-    ),
-    (
-        OIL,
-        &[
-            "uint8_t x;\nTASK(T) {\n  x = 1u;\n",
-            "  TerminateTask();\n}\n",
-        ],
-        "refused FORM C at 3:7\n",
-    ),
     (
         OIL,
         &["uint8_t x;\nuint8_t x;\n"],
@@ -446,11 +444,6 @@ const REFUSED: [Refused; 33] = [
         OIL,
         &["uint8_t x;\nTASK(T) {\n  x = 1;\n"],
         "refused C END at 4:1\n",
-    ),
-    (
-        OIL,
-        &["TASK(T) {\n  TerminateTask();\n}\nuint8_t x;\n"],
-        "refused FORM C at 4:1\n",
     ),
     (
         OIL,

@@ -13,11 +13,15 @@ use Rattle.oschk_cmd.specs.declared.status.Status.{Status}
 use Rattle.oschk_cmd.specs.Checks.{IsCheckReply, HasCheckFault}
 use Rattle.oschk_cmd.specs.Replays.{IsReplayReply, HasReplayFault}
 use Rattle.oschk_cmd.specs.Replies.{reply_text, status_after}
-use Rattle.oschk_cmd.specs.Runs.{IsRunReply, HasRunFault}
+use Rattle.oschk_cmd.specs.Fetched.{HasTextFault}
+use Rattle.oschk_cmd.specs.Runs.{IsMakeReply, IsRunReply}
+use Rattle.oschk_cmd.specs.Shows.{IsShowReply}
 
 -- why this is replied to what is asked for
 abbrev pub IsReplyTo : Asked → DeskState → DeskState → Reply → Type 0
 IsReplyTo (asked.Run run) before after answer = IsRunReply run before after answer
+IsReplyTo (asked.Make make) before after answer = IsMakeReply make answer
+IsReplyTo (asked.Show show) before after answer = IsShowReply show before after answer
 IsReplyTo (asked.Replay replay) before after answer = IsReplayReply replay before after answer
 IsReplyTo (asked.Check cert) before after answer = IsCheckReply cert before after answer
 
@@ -35,7 +39,9 @@ IsReply words before after answer = IsAskedReply words before after answer
 
 -- the desk failed at a fetch of a file that is to be read
 abbrev pub HasFetchFault : Asked → DeskState → DeskState → Type 0
-HasFetchFault (asked.Run run) before after = HasRunFault run before after
+HasFetchFault (asked.Run run) before after = HasTextFault run.oil run.c before after
+HasFetchFault (asked.Make make) before after = ⊥
+HasFetchFault (asked.Show show) before after = HasTextFault show.oil show.c before after
 HasFetchFault (asked.Replay replay) before after = HasReplayFault replay before after
 HasFetchFault (asked.Check cert) before after = HasCheckFault cert before after
 

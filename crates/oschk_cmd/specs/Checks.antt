@@ -23,7 +23,7 @@ use Rattle.oschk_cmd.specs.declared.reply.Reply.{Reply}
 use Rattle.oschk_cmd.specs.declared.reply.Reply.TheVariants as reply
 use Rattle.oschk_cmd.specs.declared.status.Status.TheVariants.{Good, NotPermitted}
 use Rattle.oschk_cmd.specs.Replies.{check_status}
-use Rattle.oschk_cmd.specs.Runs.{HasFile, HasLongFile}
+use Rattle.oschk_cmd.specs.Fetched.{HasLongFile, HasText, cert_limit}
 
 -- a certificate's verdict, and an answer, as they are reported
 abbrev pub verdict_told : Verdict → reports.Verdict
@@ -58,19 +58,19 @@ IsCertRefusal bytes _ = ⊥
 
 -- the certificate is too long
 pub record IsLongCert (desk : DeskState) (name : List ℕ) (refusal : Refusal) : Type 0 where
-  pub long : HasLongFile desk name 1073741824
+  pub long : HasLongFile desk cert_limit name
   pub is : refusal ≡ why.LongCert
 
 -- the certificate was fetched, and is refused
 pub record IsFetchedRefused (desk : DeskState) (name : List ℕ) (refusal : Refusal) : Type 0 where
   pub bytes : List ℕ
-  pub has_bytes : HasFile desk name bytes
+  pub has_bytes : HasText desk cert_limit name bytes
   pub why : IsCertRefusal bytes refusal
 
 -- the certificate was fetched, and its check tells this
 pub record IsFetchedCert (desk : DeskState) (name : List ℕ) (lines : ℕ) (answered : CertReport) : Type 0 where
   pub bytes : List ℕ
-  pub has_bytes : HasFile desk name bytes
+  pub has_bytes : HasText desk cert_limit name bytes
   pub checked : IsCertChecked bytes lines answered
 
 -- the desk failed at the fetch of the certificate
@@ -103,7 +103,7 @@ pub record ChecksCert (words : List (List ℕ)) (desk : DeskState) (cert : Cert)
   pub name : List ℕ
   pub is_check : IsCheck words name
   pub bytes : List ℕ
-  pub has_bytes : HasFile desk name bytes
+  pub has_bytes : HasText desk cert_limit name bytes
   pub cert_is : IsCertOf bytes cert
 
 -- it is good: all lines are derived, and its verdict fits; so where it holds no assignment makes formula and goal true, and where it fails its model does

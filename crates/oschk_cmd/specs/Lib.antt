@@ -1,10 +1,9 @@
-pub mod OneRun
-pub mod Prepared
-pub mod Stages
 pub mod Status
+pub mod Fetched
 pub mod Replies
 pub mod Fit
 pub mod Runs
+pub mod Shows
 pub mod Replays
 pub mod Checks
 pub mod Answers

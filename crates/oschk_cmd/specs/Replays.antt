@@ -19,9 +19,9 @@ use Rattle.step_ir.specs.declared.event.Choice.{Choice}
 use Rattle.oschk_cmd.specs.declared.reply.Reply.{Reply}
 use Rattle.oschk_cmd.specs.declared.reply.Reply.TheVariants as reply
 use Rattle.oschk_cmd.specs.declared.reply.Rerun.{Rerun}
-use Rattle.oschk_cmd.specs.Prepared.{IsPrepared, IsRefusal}
+use Rattle.text_stages.specs.Prepared.{IsPrepared, IsRefusal}
+use Rattle.oschk_cmd.specs.Fetched.{HasBoth, HasLongFile, HasText, IsLong, text_limit}
 use Rattle.oschk_cmd.specs.Replies.{replay_status}
-use Rattle.oschk_cmd.specs.Runs.{HasFile, HasLongFile, IsLongC, IsLongOil}
 use Rattle.oschk_cmd.specs.declared.status.Status.{Status}
 
 -- the scheduler's events for choices with the failure that the last of them is, or the first choice that isn't permitted
@@ -53,9 +53,8 @@ AreWrong oil c schedule mode refusal = IsRefusal oil c mode refusal ⊎ IsWrongS
 
 -- the desk has these three texts, if it tells its files
 pub record HasTexts (desk : DeskState) (replay : ReplayWords) (oil c schedule : List ℕ) : Type 0 where
-  pub has_oil : HasFile desk replay.oil oil
-  pub has_c : HasFile desk replay.c c
-  pub has_schedule : HasFile desk replay.schedule schedule
+  pub both : HasBoth desk replay.oil replay.c oil c
+  pub has_schedule : HasText desk text_limit replay.schedule schedule
 
 -- the three texts were fetched, and this is the replay
 pub record IsFetchedReplay (desk : DeskState) (replay : ReplayWords) (rerun : Rerun) : Type 0 where
@@ -77,16 +76,14 @@ pub record AreFetchedWrong (desk : DeskState) (replay : ReplayWords) (refusal : 
 pub record IsLongSchedule (desk : DeskState) (replay : ReplayWords) (refusal : Refusal) : Type 0 where
   pub oil : List ℕ
   pub c : List ℕ
-  pub has_oil : HasFile desk replay.oil oil
-  pub has_c : HasFile desk replay.c c
-  pub long : HasLongFile desk replay.schedule 262144
+  pub both : HasBoth desk replay.oil replay.c oil c
+  pub long : HasLongFile desk text_limit replay.schedule
   pub is : refusal ≡ why.LongSchedule
 
 -- why a replay is refused
 abbrev pub IsReplayRefused : DeskState → ReplayWords → Refusal → Type 0
 IsReplayRefused desk replay refusal =
-    IsLongOil desk replay.oil refusal
-    ⊎ (IsLongC desk replay.oil replay.c refusal ⊎ (IsLongSchedule desk replay refusal ⊎ AreFetchedWrong desk replay refusal))
+    IsLong desk replay.oil replay.c refusal ⊎ (IsLongSchedule desk replay refusal ⊎ AreFetchedWrong desk replay refusal)
 
 -- the desk failed at a fetch of one of the three texts
 pub record HasReplayFault (replay : ReplayWords) (before after : DeskState) : Type 0 where

@@ -22,7 +22,8 @@ report_of reply.Usage = report.Usage
 report_of reply.ReadFault = report.ReadFault
 report_of reply.OutOfMemory = report.OutOfMemory
 report_of (reply.Refused refusal) = report.Refused refusal
-report_of (reply.Ran ran) = report.Ran None ran.app ran.code ran.turns 0 ran.verdict (Some ran.replayed) (Some ran.choices)
+report_of (reply.Ran ran) = report.Ran ran.made ran.app ran.code ran.turns 0 ran.verdict (Some ran.replayed) (Some ran.choices)
+report_of (reply.Shown shown) = report.Shown shown.app shown.code
 report_of (reply.Rerun rerun) = report.Replay rerun.app rerun.code rerun.result
 report_of (reply.Checked lines answer) = report.Checked lines answer
 
@@ -56,6 +57,7 @@ reply_status reply.ReadFault = status.ReadFault
 reply_status reply.OutOfMemory = status.Memory
 reply_status (reply.Refused refusal) = status.Refused
 reply_status (reply.Ran ran) = verdict_status ran.verdict
+reply_status (reply.Shown shown) = status.Good
 reply_status (reply.Rerun rerun) = replay_status rerun.result
 reply_status (reply.Checked lines answer) = check_status answer
 

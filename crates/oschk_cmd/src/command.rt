@@ -7,11 +7,13 @@ ghost use Rattle.oschk_cmd.specs.Checks.{HasBadCert, HasGoodCert};
 ghost use Rattle.oschk_cmd.specs.Fit.{IsFit};
 ghost use Rattle.oschk_cmd.specs.Headline.{HasFailed, Holds};
 ghost use Rattle.oschk_cmd.specs.Replays.{Replays};
+ghost use Rattle.oschk_cmd.specs.Shows.{Shows};
 
 use crate::check::reply_to_check;
 use crate::replays::reply_to_replay;
 use crate::reply::{Reply, is_fault, report_of, status_of};
-use crate::run::reply_to_run;
+use crate::run::{reply_to_make, reply_to_run};
+use crate::show::reply_to_show;
 use crate::status::Status;
 use chk_base::desk::Desk;
 use chk_base::sink::Sink;
@@ -28,6 +30,8 @@ fn reply_to<D: Desk>(alloc: Global, what: &Asked, desk: &mut D) -> Reply
 {
     match what {
         Asked::Run(run) => reply_to_run(alloc, run, desk),
+        Asked::Make(make) => reply_to_make(alloc, make),
+        Asked::Show(show) => reply_to_show(alloc, show, desk),
         Asked::Replay(replay) => reply_to_replay(alloc, replay, desk),
         Asked::Check(cert) => reply_to_check(alloc, cert, desk),
     }
@@ -53,7 +57,7 @@ pub fn oschk<D: Desk, S: Sink>(alloc: Global, words: &Words, desk: &mut D, out: 
     ensures answered { IsAnswered words.now (D.state desk.old) (D.state desk.new) (S.state out.old) (S.state out.new) result }
 
     // The headline: a run ends well only if no permitted schedule fails, and in a failure only if one does; a replay ends as its choices do.
-    ensures good { result ≡ Status.Good → Holds words.now (D.state desk.old) ⊎ (Replays words.now (D.state desk.old) Status.Good ⊎ HasGoodCert words.now (D.state desk.old)) }
+    ensures good { result ≡ Status.Good → Holds words.now (D.state desk.old) ⊎ (Shows words.now (D.state desk.old) ⊎ (Replays words.now (D.state desk.old) Status.Good ⊎ HasGoodCert words.now (D.state desk.old))) }
     ensures fails { result ≡ Status.Fails → HasFailed words.now (D.state desk.old) ⊎ Replays words.now (D.state desk.old) Status.Fails }
 
     // Each way to end badly comes by its cause.

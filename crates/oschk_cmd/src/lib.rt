@@ -3,9 +3,9 @@
 
 mod check;
 pub mod command;
-mod one_run;
-mod prepare;
+mod fetch;
 mod replays;
 mod reply;
 mod run;
+mod show;
 pub mod status;

@@ -5,7 +5,7 @@ ghost use Rattle.step_ir.specs.Fits.{Fits};
 ghost use Rattle.oschk_cmd.specs.Replays.{IsPreparedReply, IsReplayReply, IsResultOf, IsScheduleReply};
 ghost use Rattle.oschk_cmd.specs.Fit.{IsFit};
 
-use crate::prepare::{Prepared, Stop, prepare};
+use crate::fetch::{LIMIT, fetch_both};
 use crate::reply::{Reply, Rerun};
 use app_model::app::App;
 use chk_base::desk::{Desk, FetchFault};
@@ -17,9 +17,8 @@ use report::reports::{Refusal, ReplayFault, Replayed};
 use std::alloc::Global;
 use step_ir::code::Code;
 use step_ir::event::Choices;
-
-/// The most bytes that a text may have.
-const LIMIT: u64 = 262_144;
+use text_stages::prepare::{Prepared, prepare};
+use text_stages::stop::Stop;
 
 // The replay of choices, or want of memory.
 fn result_of(
@@ -103,17 +102,9 @@ pub fn reply_to_replay<D: Desk>(alloc: Global, words: &ReplayWords, desk: &mut D
     ensures fit { IsFit result }
     ensures files { (D.state desk.new).files ≡ (D.state desk.old).files }
 {
-    let oil = match desk.fetch(alloc, &words.oil, LIMIT) {
-        Ok(text) => text,
-        Err(FetchFault::Failed) => return Reply::ReadFault,
-        Err(FetchFault::TooLong) => return Reply::Refused(Refusal::LongOil),
-        Err(FetchFault::Memory) => return Reply::OutOfMemory,
-    };
-    let c = match desk.fetch(alloc, &words.c, LIMIT) {
-        Ok(text) => text,
-        Err(FetchFault::Failed) => return Reply::ReadFault,
-        Err(FetchFault::TooLong) => return Reply::Refused(Refusal::LongC),
-        Err(FetchFault::Memory) => return Reply::OutOfMemory,
+    let both = match fetch_both(alloc, desk, &words.oil, &words.c) {
+        Ok(both) => both,
+        Err(reply) => return reply,
     };
     let schedule = match desk.fetch(alloc, &words.schedule, LIMIT) {
         Ok(text) => text,
@@ -121,5 +112,5 @@ pub fn reply_to_replay<D: Desk>(alloc: Global, words: &ReplayWords, desk: &mut D
         Err(FetchFault::TooLong) => return Reply::Refused(Refusal::LongSchedule),
         Err(FetchFault::Memory) => return Reply::OutOfMemory,
     };
-    reply_to_texts(alloc, &oil, &c, &schedule, words)
+    reply_to_texts(alloc, &both.oil, &both.c, &schedule, words)
 }

@@ -9,15 +9,24 @@ use report::reports::{CertReport, Refusal, ReplayFault, Replayed, Report, Verdic
 use step_ir::code::Code;
 use step_ir::event::Choices;
 
-/// The run of an application by at most so many turns: its verdict, its events, and its choices.
+/// The run of an application by at most so many turns: its verdict, its events, and its choices. `made` is the number to which its texts
+/// belong, where they were made.
 #[derive(Drop)]
 pub struct Ran {
+    pub made: Option<u32>,
     pub app: App,
     pub code: Code,
     pub turns: u16,
     pub verdict: Verdict,
     pub replayed: Replayed,
     pub choices: Choices,
+}
+
+/// An application and its code, as they are shown.
+#[derive(Drop)]
+pub struct Shown {
+    pub app: App,
+    pub code: Code,
 }
 
 /// The replay of a schedule of an application.
@@ -36,6 +45,7 @@ pub enum Reply {
     OutOfMemory,
     Refused(Refusal),
     Ran(Ran),
+    Shown(Shown),
     Rerun(Rerun),
     Checked { lines: u64, answer: CertReport },
 }
@@ -44,7 +54,7 @@ fn ran_report<'a>(ran: &'a Ran) -> Report<'a>
     ensures { plain_report result ≡ report_of (Reply.Ran ran.now) }
 {
     Report::Ran {
-        made: None,
+        made: ran.made,
         app: &ran.app,
         code: &ran.code,
         turns: ran.turns,
@@ -65,6 +75,10 @@ pub fn report_of<'a>(reply: &'a Reply) -> Report<'a>
         Reply::OutOfMemory => Report::OutOfMemory,
         Reply::Refused(refusal) => Report::Refused(*refusal),
         Reply::Ran(ran) => ran_report(ran),
+        Reply::Shown(shown) => Report::Shown {
+            app: &shown.app,
+            code: &shown.code,
+        },
         Reply::Rerun(rerun) => Report::Replay {
             app: &rerun.app,
             code: &rerun.code,
@@ -120,6 +134,7 @@ pub fn status_of(reply: &Reply) -> Status
         Reply::OutOfMemory => Status::Memory,
         Reply::Refused(_) => Status::Refused,
         Reply::Ran(ran) => verdict_status(ran.verdict),
+        Reply::Shown(_) => Status::Good,
         Reply::Rerun(rerun) => replay_status(&rerun.result),
         Reply::Checked { lines: _, answer } => check_status(*answer),
     }

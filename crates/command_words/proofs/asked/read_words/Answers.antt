@@ -2,7 +2,7 @@ use Rattle.std.proofs.Common.{◌≡◌, All, IfSome, IfNone, IsUtf8, List, ℕ,
 use Rattle.command_words.specs.Asked.{IsAsked}
 use Rattle.command_words.specs.Lines.{plain_texts}
 use Rattle.command_words.specs.declared.asked.Asked.{Asked}
-use Rattle.command_words.specs.declared.asked.Asked.TheVariants.{Run, Replay, Check}
+use Rattle.command_words.specs.declared.asked.Asked.TheVariants.{Run, Replay, Check, Show, Make}
 use Rattle.command_words.proofs.asked.read_words.Goals as goal
 
 -- what is asked for is asked in texts
@@ -10,6 +10,8 @@ texts : (words : List (List ℕ)) (what : Asked) → IsAsked words what → All 
 texts words (Run run) is = is.of.text
 texts words (Replay replay) is = is.of.text
 texts words (Check cert) is = is.of.text
+texts words (Show show) is = is.of.text
+texts words (Make make) is = is.of.text
 
 pub texts_asked-requires : goal.texts_asked-requires
 texts_asked-requires c =

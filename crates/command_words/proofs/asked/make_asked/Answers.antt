@@ -1,0 +1,7 @@
+use Rattle.std.proofs.Common.{ap, ◌∙◌}
+use Rattle.command_words.specs.Lines.{is_plain}
+use Rattle.command_words.proofs.Plain.{make_is_plain}
+use Rattle.command_words.proofs.asked.make_asked.Goals as goal
+
+pub matches_for-requires : goal.matches_for-requires
+matches_for-requires c = ap is_plain c.line_of.ensures ∙ make_is_plain

@@ -1,0 +1,11 @@
+pub mod Begun
+pub mod Bounds
+pub mod Calls
+pub mod Chained
+pub mod Entities
+pub mod Fitted
+pub mod Nested
+pub mod Pieced
+pub mod Planned
+pub mod Scoping
+pub mod Tabled

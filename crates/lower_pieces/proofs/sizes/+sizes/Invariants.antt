@@ -1,0 +1,10 @@
+use Rattle.std.proofs.Common.{◌≡◌, ◌-◌, ◌^◌, min, take}
+use Rattle.std.specs.Prelude.{map}
+use Rattle.lower_law.specs.Statements.{block}
+use Rattle.lower_pieces.specs.Sized.{number_at, sized_all}
+use Rattle.lower_pieces.specs.Trees.{statement_of}
+use Rattle.lower_pieces.proofs.sizes.+sizes.Given as goal
+
+-- the sum so far
+abbrev pub invariant-sized_all-loop-s : goal.invariant-sized_all-loop-s
+invariant-sized_all-loop-s l = l.total ≡ min (sized_all (number_at l.calls) (block (map statement_of (take l.s-index l.b)))) (2 ^ 64 - 1)

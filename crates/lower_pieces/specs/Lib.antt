@@ -1,0 +1,11 @@
+pub mod Acting
+pub mod Guards
+pub mod Expanded
+pub mod Firsts
+pub mod Fitting
+pub mod Joined
+pub mod Pieces
+pub mod Sized
+pub mod Steps
+pub mod Trees
+pub mod Within

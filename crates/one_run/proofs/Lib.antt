@@ -1,0 +1,3 @@
+pub mod Inputless
+pub mod OnlyRun
+pub mod Runs

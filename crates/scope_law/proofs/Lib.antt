@@ -1,0 +1,13 @@
+pub mod Meant
+pub mod Expressions
+pub mod Locals
+pub mod Statements
+pub mod Blocks
+pub mod Known
+pub mod Functions
+pub mod Parts
+pub mod Chains
+pub mod Sizes
+pub mod Objects
+pub mod Serving
+pub mod Variables

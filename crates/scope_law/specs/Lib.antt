@@ -1,0 +1,4 @@
+pub mod Right
+pub mod Serving
+pub mod Sizes
+pub mod Variables

@@ -1,0 +1,4 @@
+pub mod Tokens
+pub mod Products
+pub mod Stops
+pub mod Taken
