@@ -6,5 +6,3 @@ mod draws;
 pub mod generate;
 mod objects;
 mod pieces;
-#[cfg(test)]
-mod tests;

@@ -7,5 +7,3 @@ mod declared;
 pub mod levels;
 mod notes;
 mod objects;
-#[cfg(test)]
-mod tests;

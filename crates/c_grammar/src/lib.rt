@@ -3,5 +3,3 @@
 
 pub mod law;
 pub mod symbol;
-#[cfg(test)]
-mod tests;

@@ -9,8 +9,6 @@ pub mod law;
 pub mod lexing;
 mod number;
 mod piece;
-#[cfg(test)]
-mod tests;
 pub mod token;
 pub mod tokens;
 mod words;

@@ -9,6 +9,4 @@ pub mod parse;
 mod simples;
 pub mod statement;
 mod statements;
-#[cfg(test)]
-mod tests;
 pub mod unit;

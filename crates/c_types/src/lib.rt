@@ -5,10 +5,6 @@ mod calls;
 pub mod convert;
 mod expressions;
 mod statements;
-#[cfg(test)]
-mod tests;
 pub mod typed;
-#[cfg(test)]
-mod typed_tests;
 pub mod types;
 mod units;

@@ -19,17 +19,17 @@ use Rattle.cert_form.specs.CertificateText.{literals_text, clauses_text, certifi
 use Rattle.cert_form.specs.IsCertificate.{is_small, is_label, are_labels, is_clause_over, are_rows, are_depths, are_hints, are_lines, is_ending, is_certificate}
 use Rattle.cert_form.specs.Texts.{concat}
 use Rattle.cert_form.specs.Words.{Token, sp, lf, limit, within, is_name}
-use Rattle.cert_law.specs.Accepted.{AreNames, ArePoints, entity_names}
 use Rattle.cert_text.specs.CertificateText.{certificate_of, label_of}
 use Rattle.cert_text.specs.declared.front.Bounds.{Bounds}
 use Rattle.cert_text.specs.declared.label.LabelText.TheVariants as kinds
 use Rattle.certified_run.specs.Certified.{IsEvidence, ending_by, text_with}
-use Rattle.certified_run.specs.Names.{entity_name, text_of, texts_of}
+use Rattle.certified_run.specs.Names.{ArePoints, entity_name, text_of, texts_of}
 use Rattle.clause_form.proofs.Rising.{is_within-from}
 use Rattle.clause_form.specs.declared.lit.Lit.{Lit}
 use Rattle.clause_form.specs.declared.line.Line.{Line}
 use Rattle.clause_form.specs.DerivedLine.{AreDerived, clause_at, closes, follow, is_empty, option_unfalse}
 use Rattle.clause_form.specs.Literals.{AreOf, are_within, is_within, negation, rises_above}
+use Rattle.name_law.specs.Names.{AreNames, entity_names}
 use Rattle.one_stack.specs.declared.label.Label.{Label}
 use Rattle.step_ir.specs.declared.code.Code.{Code}
 use Rattle.step_ir.specs.Setting.{setting_of}
@@ -240,10 +240,10 @@ ending_is e labels budget log verdict.Undecided d = refl
 
 -- the certificate is one by its bounds, counts and orders
 pub certificate_is : (app : App) (code : Code) (bounds : Bounds) (e : Encoding) (labels : List Label) (log : List Line) (v : Verdict)
-    → AreNames (entity_names app) → ArePoints labels → 1 ≤ bounds.turns → bounds.turns ≤ 512 → bounds.arrivals ≤ 15 → bounds.budget ≤ 10 ^ 12
+    → AreNames (entity_names app) → 1 ≤ bounds.turns → bounds.turns ≤ 512 → bounds.arrivals ≤ 15 → bounds.budget ≤ 10 ^ 12
     → IsEvidence app code bounds e labels log v → length (text_with app bounds e labels log (ending_by v)) ≤ 2 ^ 30
     → is_certificate (certificate_of bounds e (texts_of app labels) log (ending_by v)) ≡ true
-certificate_is app code bounds e labels log v names points least most arrivals budget evidence short =
+certificate_is app code bounds e labels log v names least most arrivals budget evidence short =
     let depicts = evidence.encodes.depicts in
     let shape = evidence.encodes.shape in
     let entities = evidence.encodes.few in
@@ -275,7 +275,7 @@ certificate_is app code bounds e labels log v names points least most arrivals b
     and_from (length e.alternatives == bounds.turns) (are_rows n (length texts) e.alternatives) (eq-eqb (length e.alternatives) bounds.turns rows)
     (subst (λ (m : ℕ). are_rows n m e.alternatives ≡ true) (sym count) (rows_are n (length labels + 1) e.alternatives shape.alternatives_wide depicts.alternatives_within)) in
     let tables : D ≡ true = and_from (are_depths n bounds.turns e.depths) Y depths turns in
-    let labels_good : are_labels texts ≡ true = labels_are app labels names named points in
+    let labels_good : are_labels texts ≡ true = labels_are app labels names named evidence.encodes.points in
     let lower : L ≡ true =
     and_from (is_small (length texts) && are_labels texts) (D && E) (and_from (is_small (length texts)) (are_labels texts) (small (length texts) (omega (arith, count, labelled))) labels_good) (and_from D E tables ends) in
     let goal : G ≡ true = and_from (is_clause_over n e.goal) L (and_from (rises_above 0 e.goal) (is_within n e.goal) depicts.rises (is_within-from n e.goal depicts.goal_within)) lower in

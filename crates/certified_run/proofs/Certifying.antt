@@ -12,7 +12,7 @@ use Rattle.cert_text.specs.CertificateText.{certificate_of, certificate_text}
 use Rattle.cert_text.specs.declared.front.Bounds.{Bounds}
 use Rattle.cert_text.specs.declared.label.LabelText.{LabelText}
 use Rattle.certified_run.specs.Certified.{Front, IsCertified, IsEncodingOf, IsEvidence, Prefix, ending_by, text_with}
-use Rattle.certified_run.specs.Names.{texts_of}
+use Rattle.certified_run.specs.Names.{ArePoints, texts_of}
 use Rattle.chk_base.specs.declared.desk.PutFault.{PutFault}
 use Rattle.chk_base.specs.Desk.{AppendsAll, DeskState, with_piece_at}
 use Rattle.clause_form.specs.declared.line.Line.{Line}
@@ -35,15 +35,16 @@ AreWhole =
 pub begun_still : (a b : DeskState) → b.current ≡ a.current → IsSome a.current → IsSome b.current
 begun_still a b same begun = subst IsSome (sym same) begun
 
--- an encoding depicts the application, has its shape and is of few entities
+-- an encoding depicts the application, has its shape, is of few entities, and has points of 16 bits
 pub encodes_of : (app : App) (code : Code) (bounds : Bounds) (e : Encoding) (labels : List Label) (depth : ℕ) → depth ≡ (setting_of app).entities
     → Depicts (encoding_of e) labels (setting_of app) (behaviour_of code) (start_bits code) bounds.turns bounds.arrivals
-    → HasShape (encoding_of e) depth (length labels) bounds.turns → depth ≤ 16 → IsEncodingOf app code bounds e labels
-encodes_of app code bounds e labels depth same depicts shape few =
+    → HasShape (encoding_of e) depth (length labels) bounds.turns → depth ≤ 16 → ArePoints labels → IsEncodingOf app code bounds e labels
+encodes_of app code bounds e labels depth same depicts shape few points =
     record {
       depicts = depicts;
       shape = subst (λ (n : ℕ). HasShape (encoding_of e) n (length labels) bounds.turns) same shape;
       few = subst (λ (n : ℕ). n ≤ 16) same few;
+      points = points;
     }
 
 -- no more than a front is appended

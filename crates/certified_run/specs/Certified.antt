@@ -9,7 +9,7 @@ use Rattle.cert_form.specs.Certificate as c
 use Rattle.cert_text.specs.CertificateParts.{front_text}
 use Rattle.cert_text.specs.CertificateText.{certificate_of, certificate_text}
 use Rattle.cert_text.specs.declared.front.Bounds.{Bounds}
-use Rattle.certified_run.specs.Names.{texts_of}
+use Rattle.certified_run.specs.Names.{ArePoints, texts_of}
 use Rattle.chk_base.specs.Causes.{HasCause, is_fault_of}
 use Rattle.chk_base.specs.declared.desk.PutFault.{PutFault}
 use Rattle.chk_base.specs.Desk.{Append, DeskState, is_put_failed, with_piece_at}
@@ -30,11 +30,12 @@ ending_by verdict.Holds = c.Holds
 ending_by (verdict.Fails values choices) = c.Fails values
 ending_by verdict.Undecided = c.Undecided
 
--- the encoding depicts the application within the bounds, with a literal for each depth up to the number of entities and for each label
+-- the encoding depicts the application within the bounds, with a literal for each depth up to the number of entities and for each label, and the points of its labels are numbers of 16 bits
 pub record IsEncodingOf (app : App) (code : Code) (bounds : Bounds) (e : Encoding) (labels : List Label) : Type 0 where
   pub depicts : Depicts (encoding_of e) labels (setting_of app) (behaviour_of code) (start_bits code) bounds.turns bounds.arrivals
   pub shape : HasShape (encoding_of e) (setting_of app).entities (length labels) bounds.turns
   pub few : (setting_of app).entities ≤ 16
+  pub points : ArePoints labels
 
 -- the lines are derived from the encoding's formula, its goal and the lines before, each but an empty one is learned, and there are no more than the budget
 abbrev pub IsLogOf : Bounds → Encoding → List Line → Type 0

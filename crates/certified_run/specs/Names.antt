@@ -1,5 +1,5 @@
 -- Names of entities, and what labels stand for.
-use Rattle.std.specs.Prelude.{ℕ, List, [], ◌∷◌, ◌++◌, if◌then◌else◌, map, slice_get, unwrap_or}
+use Rattle.std.specs.Prelude.{ℕ, ◌<◌, ◌^◌, List, [], ◌∷◌, ◌++◌, if◌then◌else◌, map, slice_get, unwrap_or}
 use Rattle.app_model.specs.declared.app.App.{App}
 use Rattle.cert_text.specs.declared.label.LabelText.{LabelText}
 use Rattle.cert_text.specs.declared.label.LabelText.TheVariants.{Idle, Arrive, Step}
@@ -17,3 +17,8 @@ text_of app label =
 -- label 0 is idle, and each other label is of the list
 abbrev pub texts_of : App → List Label → List LabelText
 texts_of app labels = Idle ∷ map (text_of app) labels
+
+-- the point of each label is a number of 16 bits
+abbrev pub ArePoints : List Label → Type 0
+ArePoints [] = Unit {0}
+ArePoints (label ∷ labels) = (label.point < 2 ^ 16) × ArePoints labels

@@ -15,7 +15,5 @@ pub mod out_sink;
 pub mod place;
 pub mod sets;
 pub mod sink;
-#[cfg(test)]
-mod tests;
 pub mod text;
 pub mod word;

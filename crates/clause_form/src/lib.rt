@@ -11,5 +11,3 @@ pub mod list_store;
 pub mod lit;
 pub mod lit_set;
 pub mod store;
-#[cfg(test)]
-mod tests;

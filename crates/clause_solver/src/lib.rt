@@ -16,6 +16,3 @@ mod status;
 mod trail;
 
 pub use solver::solve;
-
-#[cfg(test)]
-mod tests;

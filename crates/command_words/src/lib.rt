@@ -5,6 +5,4 @@ pub mod asked;
 mod line;
 mod matches;
 mod number;
-#[cfg(test)]
-mod tests;
 mod texts;

@@ -11,6 +11,7 @@ use Rattle.chk_base.specs.declared.desk.PutFault.{PutFault}
 use Rattle.chk_base.specs.declared.desk.PutFault.TheVariants.{Failed, Memory}
 use Rattle.chk_base.specs.Desk.{Begins, DeskState, with_piece_at}
 use Rattle.one_run.specs.OneRun.{IsRunOf, steps}
+use Rattle.one_stack.specs.TaskForm.{is_task_form}
 use Rattle.replay.specs.Replaying.{events_for}
 use Rattle.step_ir.specs.declared.code.Code.{Code}
 use Rattle.step_ir.specs.declared.event.Choice.{Choice}
@@ -40,14 +41,15 @@ is_failing_one app code k choices events failure is some chosen =
 
 -- memory ran out after the whole text of a certificate was appended
 pub ran_out : (app : App) (code : Code) (bounds : Bounds) (cert : List ℕ) (before begun after : DeskState) (v : Verdict) (error : PutFault)
-    → error ≡ Memory → Begins before begun cert (Ok tt) → HasCertificate app code bounds begun after v → Means app code bounds.turns bounds.arrivals v
+    → error ≡ Memory → is_task_form app code ≡ true → Begins before begun cert (Ok tt) → HasCertificate app code bounds begun after v → Means app code bounds.turns bounds.arrivals v
     → IsUndone app code bounds cert before after error
-ran_out app code bounds cert before begun after v error memory begins has means =
+ran_out app code bounds cert before begun after v error memory form begins has means =
     let text = text_with app bounds has.encoding has.labels has.log (ending_by v) in
     record {
       left =
           inr
           (record {
+            form = form;
             begun = begun;
             begins = begins;
             cut =
@@ -64,4 +66,5 @@ ran_out app code bounds cert before begun after v error memory begins has means 
                 });
           });
       cause = λ failed. absurd (let both : Memory ≡ Failed = sym memory ∙ failed in cc);
+      form = λ failed. form;
     }

@@ -61,8 +61,9 @@ pub record IsDecidedRun (app : App) (code : Code) (bounds : Bounds) (cert : List
   pub by : IsByClauses app code bounds cert before after d ⊎ IsByOneRun app code before after d
   pub means : DecisionMeans app code bounds.turns bounds.arrivals d
 
--- the file of the certificate was begun, and holds no more than a prefix of what belongs there
+-- the run is decided by clauses, the file of its certificate was begun, and it holds no more than a prefix of what belongs there
 pub record IsBegun (app : App) (code : Code) (bounds : Bounds) (cert : List ℕ) (before after : DeskState) : Type 0 where
+  pub form : is_task_form app code ≡ true
   pub begun : DeskState
   pub begins : Begins before begun cert (Ok tt)
   pub cut : IsCut app code bounds begun after
@@ -76,3 +77,4 @@ pub record HasPutFault (cert : List ℕ) (before after : DeskState) : Type 0 whe
 pub record IsUndone (app : App) (code : Code) (bounds : Bounds) (cert : List ℕ) (before after : DeskState) (fault : PutFault) : Type 0 where
   pub left : (after.files ≡ before.files) ⊎ IsBegun app code bounds cert before after
   pub cause : fault ≡ Failed → HasPutFault cert before after
+  pub form : fault ≡ Failed → is_task_form app code ≡ true

@@ -18,7 +18,7 @@ use chk_base::desk::{Desk, PutFault};
 use chk_base::text::Text;
 use one_run::inputs::takes_no_input;
 use one_run::run::{one_run, steps};
-use replay::run::replay;
+use replay::run::{ReplayFault, replay};
 use report::reports::Replayed;
 use std::alloc::{AllocError, Global};
 use step_ir::code::Code;
@@ -49,8 +49,9 @@ fn failing_run(
             },
             choices,
         }),
-        // It is permitted, so memory ran out.
-        Err(_) => Err(AllocError),
+        // They are permitted.
+        Err(ReplayFault::NotPermitted { .. }) => unreachable!(),
+        Err(ReplayFault::Memory) => Err(AllocError),
     }
 }
 
@@ -128,8 +129,9 @@ fn by_one_run(alloc: Global, app: &App, code: &Code, turns: u16) -> Result<Decis
 ///
 /// # Errors
 ///
-/// `Failed` only where the desk failed at the begin of that file or at an append to it; it holds a prefix of a certificate's text then. `Memory`
-/// is want of memory, and is also answered outside of the task form where the code takes an input.
+/// `Failed` only in the task form, where the desk failed at the begin of that file, and then no file has changed, or at an append to it, and then
+/// it holds a prefix of a certificate's text. `Memory` is want of memory, and is also answered outside of the task form where the code takes an
+/// input.
 pub fn decide_run<D: Desk>(
     alloc: Global,
     desk: &mut D,

@@ -6,5 +6,3 @@ pub mod execution;
 pub mod guarded;
 pub mod law;
 mod shape;
-#[cfg(test)]
-mod tests;

@@ -60,9 +60,6 @@ twice z i = grind (arith, nat_tests)
 pub exchanged_zero : (i : ℕ) → exchanged 0 i ≡ i
 exchanged_zero i = grind (arith, nat_tests)
 
-pub exchanged_self : (z : ℕ) → exchanged z z ≡ 0
-exchanged_self z = grind (arith, nat_tests)
-
 pub unmoved : exchanged 0 ≡ (λ (i : ℕ). i)
 unmoved = λ j i. exchanged_zero i j
 

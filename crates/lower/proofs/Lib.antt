@@ -5,6 +5,5 @@ pub mod Idle
 pub mod Limits
 pub mod Ordered
 pub mod Placed
-pub mod Starting
 pub mod Whole
 pub mod Zeros

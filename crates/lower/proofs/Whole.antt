@@ -32,7 +32,7 @@ use Rattle.lower.specs.LoweredCode as made
 use Rattle.lower.specs.Ready.{IsReady}
 use Rattle.lower.proofs.Exchanging.{get_some, stands}
 use Rattle.lower.proofs.Idle.{idle}
-use Rattle.lower.proofs.Starting.{starts_first}
+use Rattle.lower_law.proofs.Numbers.{starts_first}
 
 -- ---- the codes of all entities are those of the unit
 module _ (u : PlainUnit) (n : ℕ) (code : Code) (long : length code.entities ≡ n) (codes : AreEntityCodes u n code.entities) where

@@ -7,7 +7,7 @@ use Rattle.step_ir.specs.Points.{PlainPoint}
 use Rattle.step_ir.specs.PointStep.{Bits, val, first, or_zero}
 use Rattle.lower_law.specs.Items.{items_all}
 use Rattle.lower_law.specs.Statements.{CellStatement, Set, Write, WriteAt, If, Loop, Assert, Input, Call, Return, Serve, Block, CellBlock, Nil, Cons, CellFunction, CellUnit, questions, rooms_to}
-use Rattle.lower_law.specs.Lowered.{Nexts, Plan, entry_all, size, size_all, close_entry, closing_size, outer, plan_to, points_of_entity}
+use Rattle.lower_law.specs.Lowered.{Nexts, Plan, entry_all, entry_of_entity, size, size_all, close_entry, closing_size, outer, plan_to, points_of_entity}
 use Rattle.lower_law.specs.Exact.{Layout, StandsAs, IsExact, FitsEntity, first_position, exchanged, lowered}
 use Rattle.lower_law.proofs.Things.{entry_first}
 use Rattle.lower_law.proofs.Lowering.{exact}
@@ -88,6 +88,11 @@ module _ (unit : CellUnit) (depth : ℕ) (lay : Layout) (width : ℕ → Width) 
     here : (z : ℕ) → exchanged z z ≡ 0
     here z = grind (arith, nat_tests)
 
+  -- the first point that runs has the number 0
+  pub starts_first : (unit.entity e).gives ≡ false
+      → or_zero (first (val width (λ i. 0)) (entry_of_entity (exchanged (first_position unit depth lay width e)) (lay.temp e) unit depth (lay.first e) (unit.entity e))) ≡ 0
+  starts_first void = let z = first_position unit depth lay width e in ap or_zero (starts_at (exchanged z) (unit.entity e).gives void) ∙ some_first _ z refl
+
   -- lowering is exact for every unit that fits
   pub exact_lowered : FitsEntity unit depth lay width e → IsExact unit depth lay (lowered unit depth lay width) e
   exact_lowered fe =
@@ -99,5 +104,5 @@ module _ (unit : CellUnit) (depth : ℕ) (lay : Layout) (width : ℕ → Width) 
         room = fe.room;
         void = fe.void;
         points = stands_list z (points_of_entity number (lay.temp e) unit depth (lay.first e) (unit.entity e)) [];
-        starts = ap or_zero (starts_at number (unit.entity e).gives fe.void) ∙ some_first _ z refl;
+        starts = starts_first fe.void;
       })

@@ -10,7 +10,5 @@ pub mod law;
 pub mod pieces;
 pub mod sizes;
 pub mod steps;
-#[cfg(test)]
-mod tests;
 pub mod translation;
 pub mod tree;

@@ -11,7 +11,5 @@ pub mod reader;
 mod reading;
 mod sections;
 mod stop;
-#[cfg(test)]
-mod tests;
 mod token;
 pub mod tree;

@@ -20,6 +20,4 @@ mod sets;
 mod start;
 mod starts;
 mod terms;
-#[cfg(test)]
-mod tests;
 mod widths;

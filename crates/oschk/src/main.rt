@@ -2,6 +2,8 @@
 #![tactic(auto)]
 
 #[cfg(test)]
+mod cert_tests;
+#[cfg(test)]
 mod replay_tests;
 #[cfg(test)]
 mod row_tests;

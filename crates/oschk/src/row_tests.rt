@@ -1,11 +1,36 @@
 // The worked runs, shows and replays of services, levels and expressions, over files and an output in memory.
-use crate::tests::{HEAD, Parts, TAIL, replay, result_of, run};
+use crate::tests::{
+    AS_BEFORE, GOOD_FAILS, GOOD_HOLDS, HEAD, Parts, Run, TAIL, certified_of, replay, result_of, run,
+};
 use std::test::Fail;
 
-// Words, an OIL text, a C text, the number that the program ends with, and what it writes, or nothing where only the number counts.
-type Run = (&'static str, Parts, Parts, u8, &'static str);
+// Three requests at one level, which are served in their order.
+const QUEUE_OIL: Parts = &[
+    HEAD,
+    "TASK S { PRIORITY = 2; SCHEDULE = FULL; ACTIVATION = 1; AUTOSTART = TRUE { APPMODE = M; }; };\n",
+    "TASK P { PRIORITY = 1; SCHEDULE = FULL; ACTIVATION = 2; AUTOSTART = FALSE; };\n",
+    "TASK Q { PRIORITY = 1; SCHEDULE = FULL; ACTIVATION = 1; AUTOSTART = FALSE; };\n",
+    "TASK Z { PRIORITY = 0; SCHEDULE = FULL; ACTIVATION = 1; AUTOSTART = FALSE; };\n",
+    TAIL,
+];
 
-const RUNS: [Run; 25] = [
+const QUEUE_C: Parts = &[
+    "uint8_t x = 1;\nTASK(S) {\n  ActivateTask(P);\n  ActivateTask(Q);\n  ActivateTask(P);\n  ActivateTask(Z);\n  TerminateTask();\n}\nTASK(P) {\n  x = x * 2;\n  TerminateTask();\n}\nTASK(Q) {\n  x = x + 3;\n  TerminateTask();\n}\nTASK(Z) {\n  assert(x == 10);\n  TerminateTask();\n}\n",
+];
+
+// A task that comes after another one again.
+const CHAIN_OIL: Parts = &[
+    HEAD,
+    "TASK T { PRIORITY = 1; SCHEDULE = FULL; ACTIVATION = 1; AUTOSTART = TRUE { APPMODE = M; }; };\n",
+    "TASK U { PRIORITY = 1; SCHEDULE = FULL; ACTIVATION = 1; AUTOSTART = TRUE { APPMODE = M; }; };\n",
+    TAIL,
+];
+
+const CHAIN_C: Parts = &[
+    "uint8_t n;\nTASK(T) {\n  n = n + 1;\n  if (n == 1) { ChainTask(T); }\n  assert(n == 12);\n  TerminateTask();\n}\nTASK(U) {\n  n = n + 10;\n  TerminateTask();\n}\n",
+];
+
+const RUNS: [Run; 26] = [
     (
         "run app.oil app.c --turns=8 --arrivals=0 --cert=app.cert",
         &[
@@ -19,6 +44,7 @@ const RUNS: [Run; 25] = [
         ],
         0,
         "oschk run\nclass BCC1\nbounds 8 0\npoints 8\nverdict holds\n",
+        GOOD_HOLDS,
     ),
     (
         "run app.oil app.c --turns=8 --arrivals=0 --cert=app.cert",
@@ -33,22 +59,15 @@ const RUNS: [Run; 25] = [
         ],
         1,
         "oschk run\nclass BCC1\nbounds 8 0\npoints 8\nverdict fails F1 at 4:3\n1 L ActivateTask H -> L\n2 L read x=0 -> L\n3 L fail F1 -> stop\nschedule\ngo\ngo\ngo\n",
+        GOOD_FAILS,
     ),
     (
         "run app.oil app.c --turns=20 --arrivals=0 --cert=app.cert",
-        &[
-            HEAD,
-            "TASK S { PRIORITY = 2; SCHEDULE = FULL; ACTIVATION = 1; AUTOSTART = TRUE { APPMODE = M; }; };\n",
-            "TASK P { PRIORITY = 1; SCHEDULE = FULL; ACTIVATION = 2; AUTOSTART = FALSE; };\n",
-            "TASK Q { PRIORITY = 1; SCHEDULE = FULL; ACTIVATION = 1; AUTOSTART = FALSE; };\n",
-            "TASK Z { PRIORITY = 0; SCHEDULE = FULL; ACTIVATION = 1; AUTOSTART = FALSE; };\n",
-            TAIL,
-        ],
-        &[
-            "uint8_t x = 1;\nTASK(S) {\n  ActivateTask(P);\n  ActivateTask(Q);\n  ActivateTask(P);\n  ActivateTask(Z);\n  TerminateTask();\n}\nTASK(P) {\n  x = x * 2;\n  TerminateTask();\n}\nTASK(Q) {\n  x = x + 3;\n  TerminateTask();\n}\nTASK(Z) {\n  assert(x == 10);\n  TerminateTask();\n}\n",
-        ],
+        QUEUE_OIL,
+        QUEUE_C,
         0,
         "oschk run\nclass BCC2\nbounds 20 0\npoints 18\nverdict holds\n",
+        GOOD_HOLDS,
     ),
     (
         "run app.oil app.c --turns=8 --arrivals=0 --cert=app.cert",
@@ -63,6 +82,7 @@ const RUNS: [Run; 25] = [
         ],
         1,
         "oschk run\nclass BCC1\nbounds 8 0\npoints 6\nverdict fails F2 4 at 3:3\n1 L ActivateTask B -> L\n2 L fail F2 4 ActivateTask B -> stop\nschedule\ngo\ngo\n",
+        GOOD_FAILS,
     ),
     (
         "run app.oil app.c --turns=8 --arrivals=0 --cert=app.cert",
@@ -77,6 +97,7 @@ const RUNS: [Run; 25] = [
         ],
         0,
         "oschk run\nclass BCC2\nbounds 8 0\npoints 6\nverdict holds\n",
+        GOOD_HOLDS,
     ),
     (
         "run app.oil app.c --turns=8 --arrivals=0 --cert=app.cert",
@@ -91,6 +112,7 @@ const RUNS: [Run; 25] = [
         ],
         1,
         "oschk run\nclass BCC1\nbounds 8 0\npoints 5\nverdict fails F2 4 at 2:3\n1 L fail F2 4 ActivateTask L -> stop\nschedule\ngo\n",
+        GOOD_FAILS,
     ),
     (
         "run app.oil app.c --turns=8 --arrivals=0 --cert=app.cert",
@@ -106,6 +128,7 @@ const RUNS: [Run; 25] = [
         ],
         1,
         "oschk run\nclass BCC1\nbounds 8 0\npoints 6\nverdict fails F2 5 at 4:3\n1 T GetResource R -> T\n2 T GetResource S -> T\n3 T fail F2 5 ReleaseResource R -> stop\nschedule\ngo\ngo\ngo\n",
+        GOOD_FAILS,
     ),
     (
         "run app.oil app.c --turns=8 --arrivals=0 --cert=app.cert",
@@ -119,20 +142,28 @@ const RUNS: [Run; 25] = [
         &["TASK(T) {\n  GetResource(R);\n  TerminateTask();\n}\n"],
         1,
         "oschk run\nclass BCC1\nbounds 8 0\npoints 3\nverdict fails F2 6 at 3:3\n1 T GetResource R -> T\n2 T fail F2 6 TerminateTask -> stop\nschedule\ngo\ngo\n",
+        GOOD_FAILS,
+    ),
+    (
+        "run app.oil app.c --turns=8 --arrivals=0 --cert=app.cert",
+        &[
+            HEAD,
+            "RESOURCE R { RESOURCEPROPERTY = STANDARD; };\n",
+            "TASK T { PRIORITY = 1; SCHEDULE = FULL; ACTIVATION = 1; AUTOSTART = TRUE { APPMODE = M; }; RESOURCE = R; };\n",
+            TAIL,
+        ],
+        &["TASK(T) {\n  GetResource(R);\n  ReleaseResource(R);\n  TerminateTask();\n}\n"],
+        0,
+        "oschk run\nclass BCC1\nbounds 8 0\npoints 4\nverdict holds\n",
+        GOOD_HOLDS,
     ),
     (
         "run app.oil app.c --turns=16 --arrivals=0 --cert=app.cert",
-        &[
-            HEAD,
-            "TASK T { PRIORITY = 1; SCHEDULE = FULL; ACTIVATION = 1; AUTOSTART = TRUE { APPMODE = M; }; };\n",
-            "TASK U { PRIORITY = 1; SCHEDULE = FULL; ACTIVATION = 1; AUTOSTART = TRUE { APPMODE = M; }; };\n",
-            TAIL,
-        ],
-        &[
-            "uint8_t n;\nTASK(T) {\n  n = n + 1;\n  if (n == 1) { ChainTask(T); }\n  assert(n == 12);\n  TerminateTask();\n}\nTASK(U) {\n  n = n + 10;\n  TerminateTask();\n}\n",
-        ],
+        CHAIN_OIL,
+        CHAIN_C,
         0,
         "oschk run\nclass BCC2\nbounds 16 0\npoints 13\nverdict holds\n",
+        GOOD_HOLDS,
     ),
     (
         "run app.oil app.c --turns=10 --arrivals=0 --cert=app.cert",
@@ -148,6 +179,7 @@ const RUNS: [Run; 25] = [
         ],
         0,
         "oschk run\nclass BCC2\nbounds 10 0\npoints 12\nverdict holds\n",
+        AS_BEFORE,
     ),
     (
         "run app.oil app.c --turns=8 --arrivals=0 --cert=app.cert",
@@ -159,6 +191,7 @@ const RUNS: [Run; 25] = [
         &["TASK(T) {\n  int32_t a = 2147483647;\n  a = a + 1;\n  TerminateTask();\n}\n"],
         1,
         "oschk run\nclass BCC1\nbounds 8 0\npoints 4\nverdict fails F3 at 3:3\n1 T local a=2147483647 -> T\n2 T fail F3 -> stop\nschedule\ngo\ngo\n",
+        GOOD_FAILS,
     ),
     (
         "run app.oil app.c --turns=8 --arrivals=0 --cert=app.cert",
@@ -172,6 +205,7 @@ const RUNS: [Run; 25] = [
         ],
         0,
         "oschk run\nclass BCC1\nbounds 8 0\npoints 5\nverdict holds\n",
+        GOOD_HOLDS,
     ),
     (
         "run app.oil app.c --turns=8 --arrivals=0 --cert=app.cert",
@@ -185,6 +219,7 @@ const RUNS: [Run; 25] = [
         ],
         0,
         "oschk run\nclass BCC1\nbounds 8 0\npoints 5\nverdict holds\n",
+        GOOD_HOLDS,
     ),
     (
         "run app.oil app.c --turns=8 --arrivals=0 --cert=app.cert",
@@ -196,6 +231,7 @@ const RUNS: [Run; 25] = [
         &["uint8_t b[64];\nTASK(T) {\n  uint8_t i = 64;\n  b[i] = 1;\n  TerminateTask();\n}\n"],
         1,
         "oschk run\nclass BCC1\nbounds 8 0\npoints 4\nverdict fails F6 at 4:3\n1 T local i=64 -> T\n2 T fail F6 -> stop\nschedule\ngo\ngo\n",
+        GOOD_FAILS,
     ),
     (
         "run app.oil app.c --turns=8 --arrivals=0 --cert=app.cert",
@@ -210,6 +246,7 @@ const RUNS: [Run; 25] = [
         ],
         1,
         "oschk run\nclass BCC1\nbounds 8 0\npoints 6\nverdict fails F8 at 4:3\n1 T DisableAllInterrupts -> T\n2 T fail F8 GetResource RES_SCHEDULER -> stop\nschedule\ngo\ngo\n",
+        AS_BEFORE,
     ),
     (
         "run app.oil app.c --turns=8 --arrivals=0 --cert=app.cert",
@@ -223,20 +260,23 @@ const RUNS: [Run; 25] = [
         ],
         3,
         "refused FORM C at 2:15\n",
+        AS_BEFORE,
     ),
     (
-        "make 1 --turns=12 --arrivals=0 --cert=m.cert",
+        "make 1 --turns=12 --arrivals=0 --cert=app.cert",
         &[],
         &[""],
         0,
         "oschk make\nnumber 1\nclass BCC1\nbounds 12 0\npoints 91\nverdict holds\n",
+        AS_BEFORE,
     ),
     (
-        "make 6 --turns=512 --arrivals=0 --cert=m.cert",
+        "make 6 --turns=512 --arrivals=0 --cert=app.cert",
         &[],
         &[""],
         3,
         "refused SIZE 70656 of 65536\n",
+        AS_BEFORE,
     ),
     (
         "run app.oil app.c --turns=8 --arrivals=0 --cert=app.cert",
@@ -248,6 +288,7 @@ const RUNS: [Run; 25] = [
         &["TASK(T) {\n  int32_t a = 0;\n  a = 1 / a;\n  TerminateTask();\n}\n"],
         1,
         "oschk run\nclass BCC1\nbounds 8 0\npoints 4\nverdict fails F4 at 3:3\n1 T local a=0 -> T\n2 T fail F4 -> stop\nschedule\ngo\ngo\n",
+        GOOD_FAILS,
     ),
     (
         "run app.oil app.c --turns=8 --arrivals=0 --cert=app.cert",
@@ -259,6 +300,7 @@ const RUNS: [Run; 25] = [
         &["TASK(T) {\n  int32_t a = 32;\n  a = 1 << a;\n  TerminateTask();\n}\n"],
         1,
         "oschk run\nclass BCC1\nbounds 8 0\npoints 4\nverdict fails F5 at 3:3\n1 T local a=32 -> T\n2 T fail F5 -> stop\nschedule\ngo\ngo\n",
+        GOOD_FAILS,
     ),
     (
         "run app.oil app.c --turns=8 --arrivals=0 --cert=app.cert",
@@ -270,6 +312,7 @@ const RUNS: [Run; 25] = [
         &["uint8_t b[2];\nTASK(T) {\n  uint8_t i = b[2 - 3];\n  TerminateTask();\n}\n"],
         1,
         "oschk run\nclass BCC1\nbounds 8 0\npoints 4\nverdict fails F6 at 3:11\n1 T fail F6 -> stop\nschedule\ngo\n",
+        GOOD_FAILS,
     ),
     (
         "run app.oil app.c --turns=8 --arrivals=0 --cert=app.cert",
@@ -281,6 +324,7 @@ const RUNS: [Run; 25] = [
         &["TASK(T) {\n  int32_t a = -2147483647 - 1;\n  a = a / -1;\n  TerminateTask();\n}\n"],
         1,
         "oschk run\nclass BCC1\nbounds 8 0\npoints 4\nverdict fails F3 at 3:3\n1 T local a=-2147483648 -> T\n2 T fail F3 -> stop\nschedule\ngo\ngo\n",
+        GOOD_FAILS,
     ),
     (
         "run app.oil app.c --turns=32 --arrivals=0 --cert=app.cert",
@@ -294,6 +338,7 @@ const RUNS: [Run; 25] = [
         ],
         0,
         "",
+        GOOD_HOLDS,
     ),
     (
         "run app.oil app.c --turns=64 --arrivals=0 --cert=app.cert",
@@ -307,6 +352,7 @@ const RUNS: [Run; 25] = [
         ],
         0,
         "",
+        GOOD_HOLDS,
     ),
     (
         "run app.oil app.c --turns=64 --arrivals=0 --cert=app.cert",
@@ -320,6 +366,7 @@ const RUNS: [Run; 25] = [
         ],
         0,
         "",
+        GOOD_HOLDS,
     ),
 ];
 
@@ -329,11 +376,16 @@ fn runs() -> &'static [Run] {
 
 #[test]
 fn the_runs_of_services_end_as_they_should(rt: HostRuntime) -> Result<(), Fail> {
-    for (words, oil, c, number, report) in runs() {
-        let ended = result_of(rt.alloc(), &run(words, oil, c))?;
-        assert_eq!(rt; ended.number, *number, "{report}");
+    for (words, oil, c, number, report, last) in runs() {
+        let both = certified_of(rt.alloc(), &run(words, oil, c))?;
+        assert_eq!(rt; both.run.number, *number, "{report}");
         assert!(rt;
-            report.is_empty() || ended.text.as_bytes() == report.as_bytes(),
+            report.is_empty() || both.run.text.as_bytes() == report.as_bytes(),
+            "{report}"
+        );
+        assert_eq!(rt; both.check.number, 0, "{report}");
+        assert!(rt;
+            both.check.text.as_bytes().ends_with(last.as_bytes()),
             "{report}"
         );
     }
@@ -433,6 +485,24 @@ pub fn points() -> &'static [Points] {
 
 // An OIL text, a C text, a schedule, the number that the program ends with, and what it writes.
 type Replay = (Parts, Parts, Parts, u8, &'static str);
+
+// Whole runs, event by event.
+const WHOLE_RUNS: [Replay; 2] = [
+    (
+        QUEUE_OIL,
+        QUEUE_C,
+        &["go\ngo\ngo\ngo\ngo\ngo\ngo\ngo\ngo\ngo\ngo\ngo\ngo\ngo\ngo\ngo\ngo\n"],
+        0,
+        "oschk replay\n1 S ActivateTask P -> S\n2 S ActivateTask Q -> S\n3 S ActivateTask P -> S\n4 S ActivateTask Z -> S\n5 S TerminateTask -> P\n6 P read x=1 -> P\n7 P write x=2 -> P\n8 P TerminateTask -> Q\n9 Q read x=2 -> Q\n10 Q write x=5 -> Q\n11 Q TerminateTask -> P\n12 P read x=5 -> P\n13 P write x=10 -> P\n14 P TerminateTask -> Z\n15 Z read x=10 -> Z\n16 Z assert -> Z\n17 Z TerminateTask -> idle\ndone\n",
+    ),
+    (
+        CHAIN_OIL,
+        CHAIN_C,
+        &["go\ngo\ngo\ngo\ngo\ngo\ngo\ngo\ngo\ngo\ngo\ngo\ngo\ngo\ngo\n"],
+        0,
+        "oschk replay\n1 T read n=0 -> T\n2 T write n=1 -> T\n3 T read n=1 -> T\n4 T branch 1 -> T\n5 T ChainTask T -> U\n6 U read n=1 -> U\n7 U write n=11 -> U\n8 U TerminateTask -> T\n9 T read n=11 -> T\n10 T write n=12 -> T\n11 T read n=12 -> T\n12 T branch 0 -> T\n13 T read n=12 -> T\n14 T assert -> T\n15 T TerminateTask -> idle\ndone\n",
+    ),
+];
 
 const REPLAYS: [Replay; 22] = [
     (
@@ -723,17 +793,23 @@ const REPLAYS: [Replay; 22] = [
     ),
 ];
 
+fn whole_runs() -> &'static [Replay] {
+    &WHOLE_RUNS
+}
+
 fn replays() -> &'static [Replay] {
     &REPLAYS
 }
 
 #[test]
 fn the_replays_of_services_end_as_they_should(rt: HostRuntime) -> Result<(), Fail> {
-    for (oil, c, schedule, number, report) in replays() {
-        let case = replay("replay app.oil app.c app.sched", oil, c, schedule);
-        let ended = result_of(rt.alloc(), &case)?;
-        assert_eq!(rt; ended.number, *number, "{report}");
-        assert_eq!(rt; ended.text.as_bytes(), report.as_bytes(), "{report}");
+    for rows in [whole_runs(), replays()] {
+        for (oil, c, schedule, number, report) in rows {
+            let case = replay("replay app.oil app.c app.sched", oil, c, schedule);
+            let ended = result_of(rt.alloc(), &case)?;
+            assert_eq!(rt; ended.number, *number, "{report}");
+            assert_eq!(rt; ended.text.as_bytes(), report.as_bytes(), "{report}");
+        }
     }
     Ok(())
 }

@@ -22,8 +22,8 @@ fn the_usual_application_is_shown_whole(rt: HostRuntime) -> Result<(), Fail> {
     Ok(())
 }
 
-// The text has this line.
-fn has(text: &[u8], line: &[u8]) -> bool {
+/// The text has this line.
+pub fn has(text: &[u8], line: &[u8]) -> bool {
     !line.is_empty() && text.windows(line.len()).any(|part| part == line)
 }
 
@@ -39,10 +39,11 @@ fn each_read_and_each_thing_is_a_point(rt: HostRuntime) -> Result<(), Fail> {
     Ok(())
 }
 
-// A variable, and a task that sets it so often.
+// A variable, and a task of so many statements before its end. The first of them is a call of `Schedule`, so the run isn't decided by clauses,
+// which would take long here.
 fn assignments(alloc: Global, count: u32) -> Result<Text, AllocError> {
-    let mut c = text(alloc, &["uint8_t x;\nTASK(T) {\n"])?;
-    for _ in 0..count {
+    let mut c = text(alloc, &["uint8_t x;\nTASK(T) {\n  Schedule();\n"])?;
+    for _ in 1..count {
         c.append(b"  x = 1;\n")?;
     }
     c.append(b"  TerminateTask();\n}\n")?;
@@ -81,7 +82,7 @@ fn points_and_points_by_turns_have_limits(rt: HostRuntime) -> Result<(), Fail> {
 
 const ARRAYS: &str = "uint32_t a[64];\nuint32_t b[64];\nuint32_t c[64];\nuint32_t d[64];\n";
 
-const BODY: &str = "TASK(T) {\n  TerminateTask();\n}\n";
+const BODY: &str = "TASK(T) {\n  Schedule();\n  TerminateTask();\n}\n";
 
 #[test]
 fn cells_and_cells_by_turns_have_limits(rt: HostRuntime) -> Result<(), Fail> {
@@ -90,7 +91,7 @@ fn cells_and_cells_by_turns_have_limits(rt: HostRuntime) -> Result<(), Fail> {
             "run app.oil app.c --turns=128 --arrivals=0 --cert=app.cert",
             "",
             0,
-            "oschk run\nclass BCC1\nbounds 128 0\npoints 2\nverdict holds\n",
+            "oschk run\nclass BCC1\nbounds 128 0\npoints 3\nverdict holds\n",
         ),
         (
             "run app.oil app.c --turns=129 --arrivals=0 --cert=app.cert",

@@ -57,6 +57,17 @@ const SECOND: &str = "-1 2 0\n";
 const GOAL: &str =
     "goal -1 -2 0\nlabels 1\nlabel 0 idle\ndepth 0 0 1\ndepth 1 0 1\nturn 1 0 1\nlog\n";
 
+/// A good certificate that leaves a run undecided after two lines, as none ends here. It is in the file before each run.
+pub const EARLIER: Parts = &[
+    TITLE,
+    "budget 2\n",
+    SIZES,
+    FIRST,
+    SECOND,
+    GOAL,
+    "2 0 1 2 0\n2 0 1 2 0\nverdict undecided\nend\n",
+];
+
 // What the program is called with: its words, its files, and the call of the desk and that of the output that fails, 0 for none.
 #[derive(Clone, Copy)]
 pub struct Case {
@@ -75,7 +86,7 @@ pub fn run(words: &'static str, oil: Parts, c: Parts) -> Case {
         words,
         oil,
         c,
-        cert: &[],
+        cert: EARLIER,
         schedule: &[],
         desk_fails_at: 0,
         out_fails_at: 0,
@@ -117,7 +128,7 @@ fn with_faults(desk_fails_at: u64, out_fails_at: u64) -> Case {
         words: RUN,
         oil: OIL,
         c: HOLDS,
-        cert: &[],
+        cert: EARLIER,
         schedule: &[],
         desk_fails_at,
         out_fails_at,
@@ -174,10 +185,10 @@ fn out_of(alloc: Global, case: &Case) -> Result<MemSink, AllocError> {
 fn called(
     alloc: Global,
     words: &Words,
-    mut desk: MemDesk,
+    desk: &mut MemDesk,
     mut out: MemSink,
 ) -> Result<Ended, AllocError> {
-    let number = oschk(alloc, words, &mut desk, &mut out).number();
+    let number = oschk(alloc, words, desk, &mut out).number();
     Ok(Ended {
         number,
         text: Text::from_bytes(alloc, out.text().as_bytes())?,
@@ -186,9 +197,45 @@ fn called(
 
 pub fn result_of(alloc: Global, case: &Case) -> Result<Ended, AllocError> {
     let words = words_of(alloc, case.words)?;
-    let desk = desk_of(alloc, case)?;
+    let mut desk = desk_of(alloc, case)?;
     let out = out_of(alloc, case)?;
-    called(alloc, &words, desk, out)
+    called(alloc, &words, &mut desk, out)
+}
+
+/// What a run and the check of its certificate end with.
+#[derive(Drop)]
+pub struct Certified {
+    pub run: Ended,
+    pub check: Ended,
+}
+
+/// The result of words, and of the check of app.cert afterwards.
+pub fn certified_of(alloc: Global, case: &Case) -> Result<Certified, AllocError> {
+    let words = words_of(alloc, case.words)?;
+    let check = words_of(alloc, "check app.cert")?;
+    let mut desk = desk_of(alloc, case)?;
+    Ok(Certified {
+        run: called(alloc, &words, &mut desk, out_of(alloc, case)?)?,
+        check: called(alloc, &check, &mut desk, out_of(alloc, case)?)?,
+    })
+}
+
+/// What a case ends with, and what app.cert has afterwards.
+#[derive(Drop)]
+pub struct Left {
+    pub ended: Ended,
+    pub cert: Text,
+}
+
+pub fn left_by(alloc: Global, case: &Case) -> Result<Left, AllocError> {
+    let words = words_of(alloc, case.words)?;
+    let mut desk = desk_of(alloc, case)?;
+    let ended = called(alloc, &words, &mut desk, out_of(alloc, case)?)?;
+    let cert = match desk.file(&text(alloc, &["app.cert"])?) {
+        Some(cert) => cert.copy(alloc)?,
+        None => Text::new(alloc),
+    };
+    Ok(Left { ended, cert })
 }
 
 /// The result of words over an OIL text and a C text.
@@ -204,23 +251,32 @@ pub fn called_with(
     called(
         alloc,
         &words_of(alloc, words)?,
-        desk,
+        &mut desk,
         out_of(alloc, &words_alone)?,
     )
 }
 
-// Words, an OIL text, a C text, the number that the program ends with, and what it writes.
-type Run = (&'static str, Parts, Parts, u8, &'static str);
+/// How the check of app.cert ends where a run holds by its certificate, where one fails by it, and where the file stays as it was.
+pub const GOOD_HOLDS: &str = "\ngood holds\n";
+
+pub const GOOD_FAILS: &str = "\ngood fails\n";
+
+pub const AS_BEFORE: &str = "oschk check\nlines 2\ngood undecided\n";
+
+/// Words, an OIL text, a C text, the number that the program ends with, what it writes, or nothing where only the number counts, and how the
+/// check of app.cert ends afterwards.
+pub type Run = (&'static str, Parts, Parts, u8, &'static str, &'static str);
 
 const RUNS: [Run; 8] = [
-    (RUN, OIL, HOLDS, 0, REPORT),
-    (RUN, OIL, FAILS, 1, REPORT_OF_THE_FAILURE),
+    (RUN, OIL, HOLDS, 0, REPORT, GOOD_HOLDS),
+    (RUN, OIL, FAILS, 1, REPORT_OF_THE_FAILURE, GOOD_FAILS),
     (
         "run --cert=app.cert --turns 2 app.oil --arrivals=0 app.c",
         OIL,
         FAILS,
         0,
         REPORT_OF_TWO_TURNS,
+        GOOD_HOLDS,
     ),
     (
         "run app.oil app.c --turns=8 --arrivals=0 --cert=app.cert --mode=M",
@@ -228,6 +284,7 @@ const RUNS: [Run; 8] = [
         HOLDS,
         0,
         REPORT,
+        GOOD_HOLDS,
     ),
     (
         "run app.oil app.c --turns=8 --arrivals=0 --cert=app.cert --mode=N",
@@ -235,6 +292,7 @@ const RUNS: [Run; 8] = [
         HOLDS,
         3,
         "refused OIL RULE A19 at 2:5\n",
+        AS_BEFORE,
     ),
     (
         "run app.oil app.c --turns=08 --arrivals=0 --cert=app.cert",
@@ -242,9 +300,10 @@ const RUNS: [Run; 8] = [
         HOLDS,
         4,
         "oschk: usage\n",
+        AS_BEFORE,
     ),
-    ("run app.oil", OIL, HOLDS, 4, "oschk: usage\n"),
-    ("", OIL, HOLDS, 4, "oschk: usage\n"),
+    ("run app.oil", OIL, HOLDS, 4, "oschk: usage\n", AS_BEFORE),
+    ("", OIL, HOLDS, 4, "oschk: usage\n", AS_BEFORE),
 ];
 
 fn runs() -> &'static [Run] {
@@ -253,22 +312,30 @@ fn runs() -> &'static [Run] {
 
 #[test]
 fn the_worked_cases_end_as_they_should(rt: HostRuntime) -> Result<(), Fail> {
-    for (words, oil, c, number, report) in runs() {
-        let ended = result_of(rt.alloc(), &run(words, oil, c))?;
-        assert!(rt; ended.number == *number && ended.text.as_bytes() == report.as_bytes());
+    for (words, oil, c, number, report, last) in runs() {
+        let both = certified_of(rt.alloc(), &run(words, oil, c))?;
+        assert!(rt; both.run.number == *number && both.run.text.as_bytes() == report.as_bytes());
+        assert_eq!(rt; both.check.number, 0, "{words}");
+        assert!(rt;
+            both.check.text.as_bytes().ends_with(last.as_bytes()),
+            "{words}"
+        );
     }
     Ok(())
 }
 
 #[test]
 fn faults_of_desk_and_output_have_their_numbers(rt: HostRuntime) -> Result<(), Fail> {
-    for (desk_fails_at, out_fails_at, number, report) in [
-        (1, 0, 5, "oschk: read fault\n"),
-        (2, 0, 5, "oschk: read fault\n"),
-        (0, 1, 6, ""),
+    for (desk_fails_at, out_fails_at, number, report, check) in [
+        (1, 0, 5, "oschk: read fault\n", AS_BEFORE),
+        (2, 0, 5, "oschk: read fault\n", AS_BEFORE),
+        (3, 0, 6, "", AS_BEFORE),
+        (4, 0, 6, "", "refused CERT END at 1:1\n"),
+        (0, 1, 6, "", ""),
     ] {
-        let ended = result_of(rt.alloc(), &with_faults(desk_fails_at, out_fails_at))?;
-        assert!(rt; ended.number == number && ended.text.as_bytes() == report.as_bytes());
+        let both = certified_of(rt.alloc(), &with_faults(desk_fails_at, out_fails_at))?;
+        assert!(rt; both.run.number == number && both.run.text.as_bytes() == report.as_bytes());
+        assert_eq!(rt; both.check.text.as_bytes(), check.as_bytes());
     }
     Ok(())
 }
@@ -726,7 +793,7 @@ fn ended_with_blanks(alloc: Global, name: &str, count: u32) -> Result<Ended, All
     let mut desk = desk_of(alloc, &case)?;
     desk.put(&text(alloc, &[name])?, &blanks(alloc, count)?)?;
     let out = out_of(alloc, &case)?;
-    called(alloc, &words, desk, out)
+    called(alloc, &words, &mut desk, out)
 }
 
 #[test]

@@ -1,3 +1,5 @@
+pub mod Bounded
+pub mod Checked
 pub mod Told
 pub mod Replies
 pub mod Verdicts

@@ -1,20 +1,26 @@
 -- What the status of a command says.
-use Rattle.std.proofs.Common.{◌≡◌, ◌⊎◌, ℕ, List, Bool, true, false, Option, Some, None, is_some, Result, Ok, Err, inl, inr, refl, sym, ap, ◌∙◌}
+use Rattle.std.proofs.Common.{◌≡◌, ◌⊎◌, ℕ, List, Bool, true, false, Option, Some, None, Result, Ok, Err, inl, inr, refl, sym, subst, ap, ◌∙◌}
 use Rattle.app_generator.specs.Generated.{generated_c, generated_oil}
+use Rattle.app_model.specs.declared.app.App.{App}
+use Rattle.chk_base.specs.Causes.{Rose}
 use Rattle.chk_base.specs.Desk.{DeskState}
 use Rattle.chk_base.specs.Sink.{SinkState}
 use Rattle.command_words.specs.Asked.{AreNone, IsAsked, IsCheck, IsReplay}
 use Rattle.command_words.specs.declared.asked.Asked.{Asked}
 use Rattle.command_words.specs.declared.asked.Asked.TheVariants as asked
 use Rattle.command_words.specs.declared.asked.ReplayWords.{ReplayWords}
+use Rattle.decided_run.specs.Decided.{IsByClauses, IsByOneRun, IsDecidedRun, IsFailingRun}
+use Rattle.decided_run.specs.declared.decision.Decision.{Decision}
+use Rattle.decided_run.specs.declared.decision.Decision.TheVariants as decision
 use Rattle.report.specs.declared.reports.CertReport.{CertReport}
 use Rattle.report.specs.declared.reports.CertReport.TheVariants as cert
 use Rattle.report.specs.declared.reports.ReplayFault.{ReplayFault}
 use Rattle.report.specs.declared.reports.ReplayFault.TheVariants as fault
+use Rattle.report.specs.declared.reports.Refusal.{Refusal}
 use Rattle.report.specs.declared.reports.Replayed.{Replayed}
-use Rattle.report.specs.declared.reports.Verdict.{Verdict}
-use Rattle.report.specs.declared.reports.Verdict.TheVariants as verdict
 use Rattle.report.specs.declared.reports.WriteFault.{WriteFault}
+use Rattle.report.specs.Printing.{Prints}
+use Rattle.step_ir.specs.declared.code.Code.{Code}
 use Rattle.step_ir.specs.declared.event.Failure.{Failure}
 use Rattle.oschk_cmd.specs.declared.reply.Ran.{Ran}
 use Rattle.oschk_cmd.specs.declared.reply.Reply.{Reply}
@@ -23,12 +29,12 @@ use Rattle.oschk_cmd.specs.declared.reply.Rerun.{Rerun}
 use Rattle.oschk_cmd.specs.declared.reply.Shown.{Shown}
 use Rattle.oschk_cmd.specs.declared.status.Status.{Status}
 use Rattle.oschk_cmd.specs.declared.status.Status.TheVariants as status
-use Rattle.oschk_cmd.specs.Answers.{HasFetchFault, HasReadFault, IsAnswered, IsReply, IsReplyTo}
+use Rattle.oschk_cmd.specs.Answers.{HasFetchFault, HasReadFault, IsRefused, IsReplied, IsReply, IsReplyTo, IsTold}
 use Rattle.oschk_cmd.specs.Checks.{HasBadCert, HasGoodCert, IsFetchedCert}
-use Rattle.oschk_cmd.specs.Headline.{AsksFor, HasFailed, Holds, NamesMade, NamesRun}
+use Rattle.oschk_cmd.specs.Headline.{Decides, HasFailed, Holds, IsUndecided, NamesMade, NamesRun, RunOf}
 use Rattle.oschk_cmd.specs.Replays.{IsFetchedReplay, Replays}
-use Rattle.oschk_cmd.specs.Replies.{check_status, failure_status, is_fault, reply_status, replay_status, status_after, verdict_status}
-use Rattle.oschk_cmd.specs.Runs.{IsRan, verdict_of}
+use Rattle.oschk_cmd.specs.Replies.{check_status, decision_status, failure_status, reply_status, reply_text, replay_status, status_after}
+use Rattle.oschk_cmd.specs.Runs.{IsRan, bounds_of}
 use Rattle.oschk_cmd.specs.Shows.{Shows}
 
 -- a status that isn't that of a failed write
@@ -53,23 +59,17 @@ ends_as (reply.Checked lines answered) (Err e) ended other is = absurd (unwritte
 
 -- ---- the statuses of a run and of a check
 
-unfailed : (failure : Option Failure) → verdict_status (verdict_of failure) ≡ status.Good → failure ≡ None
-unfailed None is = refl
-unfailed (Some failure) is = absurd cc
-
-failing : (failure : Option Failure) → verdict_status (verdict_of failure) ≡ status.Fails → is_some failure ≡ true
-failing None is = absurd cc
-failing (Some failure) is = refl
-
 -- a run ends in no other way
 abbrev is_of_run : Status → Bool
 is_of_run status.Good = true
 is_of_run status.Fails = true
+is_of_run status.Undecided = true
 is_of_run _ = false
 
-run_ends : (failure : Option Failure) → is_of_run (verdict_status (verdict_of failure)) ≡ true
-run_ends None = refl
-run_ends (Some failure) = refl
+run_ends : (d : Decision) → is_of_run (decision_status d) ≡ true
+run_ends decision.Holds = refl
+run_ends (decision.Fails failing) = refl
+run_ends decision.Undecided = refl
 
 -- and a check in these
 abbrev is_of_check : Status → Bool
@@ -82,17 +82,18 @@ check_ends (cert.Good v) = refl
 check_ends (cert.BadLine number) = refl
 check_ends cert.BadVerdict = refl
 
--- no run, replay or check ends as words, files or writes that fail do
+-- no run, replay or check ends as words, texts, files or writes that fail do
 abbrev is_told : Status → Bool
+is_told status.Refused = false
 is_told status.Usage = false
 is_told status.ReadFault = false
 is_told status.WriteFault = false
 is_told _ = true
 
-run_told : (v : Verdict) → is_told (verdict_status v) ≡ true
-run_told verdict.Holds = refl
-run_told verdict.Fails = refl
-run_told verdict.Undecided = refl
+run_told : (d : Decision) → is_told (decision_status d) ≡ true
+run_told decision.Holds = refl
+run_told (decision.Fails failing) = refl
+run_told decision.Undecided = refl
 
 replay_told : (result : Result Replayed ReplayFault) → is_told (replay_status result) ≡ true
 replay_told (Ok replayed) = told replayed.failure
@@ -127,57 +128,121 @@ differ test some other passes fails is = let bad : ◌≡◌ {A = Bool} true fal
 
 -- ---- words that ask for nothing, and writes that fail
 
-pub none_end : (answer : Reply) (ended : Status) → ended ≡ reply_status answer → (answer ≡ reply.Usage) ⊎ (answer ≡ reply.OutOfMemory) → (ended ≡ status.Usage) ⊎ (ended ≡ status.Memory)
-none_end answer ended is (inl usage) = inl (is ∙ ap reply_status usage)
-none_end answer ended is (inr memory) = inr (is ∙ ap reply_status memory)
+usage_after : (result : Result (Unit {0}) WriteFault) → status_after reply.Usage result ≡ status.Usage
+usage_after (Ok u) = refl
+usage_after (Err e) = refl
 
-pub none_written : (answer : Reply) → is_fault answer ≡ false → (answer ≡ reply.Usage) ⊎ (answer ≡ reply.OutOfMemory) → ⊥
-none_written answer other (inl usage) = let bad : ◌≡◌ {A = Bool} true false = sym (ap is_fault usage) ∙ other in cc
-none_written answer other (inr memory) = let bad : ◌≡◌ {A = Bool} true false = sym (ap is_fault memory) ∙ other in cc
+memory_after : (result : Result (Unit {0}) WriteFault) → status_after reply.OutOfMemory result ≡ status.Memory
+memory_after (Ok u) = refl
+memory_after (Err e) = refl
+
+-- these replies keep their status
+pub none_end : (answer : Reply) (before after : SinkState) (ended : Status) → IsTold answer before after ended → (answer ≡ reply.Usage) ⊎ (answer ≡ reply.OutOfMemory) → (ended ≡ status.Usage) ⊎ (ended ≡ status.Memory)
+none_end answer before after ended told (inl usage) = inl (told.status ∙ (ap (λ (a : Reply). status_after a told.result) usage ∙ usage_after told.result))
+none_end answer before after ended told (inr memory) = inr (told.status ∙ (ap (λ (a : Reply). status_after a told.result) memory ∙ memory_after told.result))
 
 -- no reply ends as a write that fails
-pub replied : (answer : Reply) → reply_status answer ≡ status.WriteFault → ⊥
+replied : (answer : Reply) → reply_status answer ≡ status.WriteFault → ⊥
 replied reply.Usage ends = absurd cc
 replied reply.ReadFault ends = absurd cc
 replied reply.OutOfMemory ends = absurd cc
 replied (reply.Refused refusal) ends = absurd cc
-replied (reply.Ran ran) ends = differ is_told (verdict_status ran.verdict) status.WriteFault (run_told ran.verdict) refl ends
+replied (reply.Ran ran) ends = differ is_told (decision_status ran.decision) status.WriteFault (run_told ran.decision) refl ends
 replied (reply.Shown shown) ends = absurd cc
 replied (reply.Rerun rerun) ends = differ is_told (replay_status rerun.result) status.WriteFault (replay_told rerun.result) refl ends
 replied (reply.Checked lines answered) ends = differ is_told (check_status answered) status.WriteFault (check_told answered) refl ends
 
+-- where a command that replied ends in a write fault, the output failed
+rose_after : (answer : Reply) (before after : SinkState) (result : Result (Unit {0}) WriteFault) → Prints before after (reply_text answer) result → status_after answer result ≡ status.WriteFault → Rose before.faults after.faults
+rose_after answer before after (Ok u) written is = absurd (replied answer is)
+rose_after answer before after (Err e) written is = written.cause.failed refl
+
+pub rose_end : (answer : Reply) (before after : SinkState) (ended : Status) → IsTold answer before after ended → ended ≡ status.WriteFault → Rose before.faults after.faults
+rose_end answer before after ended told is = rose_after answer before after told.result told.written (sym told.status ∙ is)
+
+-- what ends refused is a refusal
+refused_reply : (answer : Reply) → reply_status answer ≡ status.Refused → (refusal : Refusal) × (answer ≡ reply.Refused refusal)
+refused_reply reply.Usage ends = absurd cc
+refused_reply reply.ReadFault ends = absurd cc
+refused_reply reply.OutOfMemory ends = absurd cc
+refused_reply (reply.Refused refusal) ends = (refusal, refl)
+refused_reply (reply.Ran ran) ends = absurd (differ is_told (decision_status ran.decision) status.Refused (run_told ran.decision) refl ends)
+refused_reply (reply.Shown shown) ends = absurd cc
+refused_reply (reply.Rerun rerun) ends = absurd (differ is_told (replay_status rerun.result) status.Refused (replay_told rerun.result) refl ends)
+refused_reply (reply.Checked lines answered) ends = absurd (differ is_told (check_status answered) status.Refused (check_told answered) refl ends)
+
+-- and its line was written whole
+written_whole : (text : List ℕ) (before after : SinkState) (refusal : Refusal) (result : Result (Unit {0}) WriteFault) → Prints before after text result → status.Refused ≡ status_after (reply.Refused refusal) result → Prints before after text (Ok tt)
+written_whole text before after refusal (Ok tt) written is = written
+written_whole text before after refusal (Err e) written is = absurd cc
+
 module _ (words : List (List ℕ)) (before after : DeskState) where
   -- ---- runs
 
-  module _ (oil c : List ℕ) (mode : Option (List ℕ)) (k : ℕ) (made : Option ℕ) (names : NamesRun words before oil c mode k ⊎ NamesMade words oil c mode k) (ran : Ran) (at : IsRan oil c mode k made ran) where
-    asks : AsksFor words before ran.app ran.code k
-    asks = record { oil = oil; c = c; mode = mode; names = names; prepared = at.prepared }
+  by_clauses_of : (app : App) (code : Code) (of : RunOf) (fetched : DeskState) → IsDecidedRun app code (bounds_of of.turns of.budget) of.cert fetched after decision.Undecided → IsByClauses app code (bounds_of of.turns of.budget) of.cert fetched after decision.Undecided
+  by_clauses_of app code of fetched decided = clauses decided.by
+    where
+      clauses : IsByClauses app code (bounds_of of.turns of.budget) of.cert fetched after decision.Undecided ⊎ IsByOneRun app code fetched after decision.Undecided → IsByClauses app code (bounds_of of.turns of.budget) of.cert fetched after decision.Undecided
+      clauses (inl by) = by
+      clauses (inr one) = absurd (one.decided refl)
 
-    run_good : verdict_status ran.verdict ≡ status.Good → Holds words before
-    run_good ends =
+  module _ (of : RunOf) (fetched : DeskState) (made : Option ℕ) (names : NamesRun words before fetched of ⊎ NamesMade words before fetched of) (ran : Ran) (at : IsRan of.oil of.c of.mode (bounds_of of.turns of.budget) of.cert made fetched after ran) where
+    decided_as : (d : Decision) → ran.decision ≡ d → IsDecidedRun ran.app ran.code (bounds_of of.turns of.budget) of.cert fetched after d
+    decided_as d is = subst (IsDecidedRun ran.app ran.code (bounds_of of.turns of.budget) of.cert fetched after) is at.decided
+
+    decides : (d : Decision) → ran.decision ≡ d → Decides words before after ran.app ran.code of.turns d
+    decides d is =
+        record {
+          of = of;
+          fetched = fetched;
+          names = names;
+          turns_are = refl;
+          prepared = at.prepared;
+          decided = decided_as d is;
+        }
+
+    run_good : (d : Decision) → ran.decision ≡ d → decision_status d ≡ status.Good → Holds words before after
+    run_good decision.Holds is ends =
         record {
           app = ran.app;
           code = ran.code;
-          k = k;
-          asks = asks;
-          none = at.by.run_is.holds (unfailed ran.replayed.failure (ap verdict_status (sym at.by.verdict_is) ∙ ends));
+          k = of.turns;
+          decides = decides decision.Holds is;
+          none = (decided_as decision.Holds is).means;
         }
+    run_good (decision.Fails failing) is ends = absurd cc
+    run_good decision.Undecided is ends = absurd cc
 
-    run_failed : verdict_status ran.verdict ≡ status.Fails → HasFailed words before
-    run_failed ends =
+    run_failed : (d : Decision) → ran.decision ≡ d → decision_status d ≡ status.Fails → HasFailed words before after
+    run_failed decision.Holds is ends = absurd cc
+    run_failed (decision.Fails failing) is ends =
+        let means : IsFailingRun ran.app ran.code of.turns 0 failing = (decided_as (decision.Fails failing) is).means in
         record {
           app = ran.app;
           code = ran.code;
-          k = k;
-          asks = asks;
-          events = ran.replayed.events;
-          schedule = at.by.run_is.schedule;
-          failed = at.by.run_is.fails ∙ failing ran.replayed.failure (ap verdict_status (sym at.by.verdict_is) ∙ ends);
+          k = of.turns;
+          failing = failing;
+          decides = decides (decision.Fails failing) is;
+          schedule = record { choices = failing.choices; permitted = means.replayed; short = means.short; few = means.few };
+          failed = means.failed;
+        }
+    run_failed decision.Undecided is ends = absurd cc
+
+    run_undecided : (d : Decision) → ran.decision ≡ d → decision_status d ≡ status.Undecided → IsUndecided words before after
+    unfolding decides
+    run_undecided decision.Holds is ends = absurd cc
+    run_undecided (decision.Fails failing) is ends = absurd cc
+    run_undecided decision.Undecided is ends =
+        record {
+          app = ran.app;
+          code = ran.code;
+          k = of.turns;
+          decides = decides decision.Undecided is;
+          clauses = by_clauses_of ran.app ran.code of fetched (decided_as decision.Undecided is);
         }
 
-    run_other : (ended : Status) → is_of_run ended ≡ false → verdict_status ran.verdict ≡ ended → ⊥
-    run_other ended other ends =
-        differ is_of_run (verdict_status (verdict_of ran.replayed.failure)) ended (run_ends ran.replayed.failure) other (ap verdict_status (sym at.by.verdict_is) ∙ ends)
+  ran_other : (ran : Ran) (ended : Status) → is_of_run ended ≡ false → decision_status ran.decision ≡ ended → ⊥
+  ran_other ran ended other ends = differ is_of_run (decision_status ran.decision) ended (run_ends ran.decision) other ends
 
   -- ---- checks
 
@@ -212,47 +277,61 @@ module _ (words : List (List ℕ)) (before after : DeskState) where
 
   -- the texts of a run, and what was run
   record IsRunOfWords (ran : Ran) : Type 0 where
-    oil : List ℕ
-    c : List ℕ
-    mode : Option (List ℕ)
-    k : ℕ
+    of : RunOf
+    fetched : DeskState
     made : Option ℕ
-    names : NamesRun words before oil c mode k ⊎ NamesMade words oil c mode k
-    at : IsRan oil c mode k made ran
+    names : NamesRun words before fetched of ⊎ NamesMade words before fetched of
+    at : IsRan of.oil of.c of.mode (bounds_of of.turns of.budget) of.cert made fetched after ran
 
   run_of : (what : Asked) → IsAsked words what → (ran : Ran) → IsReplyTo what before after (reply.Ran ran) → IsRunOfWords ran
   run_of (asked.Run run) is ran why =
       record {
-        oil = why.oil;
-        c = why.c;
-        mode = run.mode;
-        k = run.turns;
+        of = record { oil = why.oil; c = why.c; mode = run.mode; turns = run.turns; budget = run.budget; cert = run.cert };
+        fetched = why.fetched;
         made = None;
-        names = inl (record { run = run; is_run = is; texts = why.texts; mode_is = refl; bound = refl });
+        names = inl (record { run = run; is_run = is; texts = why.texts; mode_is = refl; turns_are = refl; budget_is = refl; cert_is = refl });
         at = why.is;
       }
   run_of (asked.Make make) is ran why =
       record {
-        oil = generated_oil make.number;
-        c = generated_c make.number make.arrivals;
-        mode = None;
-        k = make.turns;
+        of =
+            record {
+              oil = generated_oil make.number;
+              c = generated_c make.number make.arrivals;
+              mode = None;
+              turns = make.turns;
+              budget = make.budget;
+              cert = make.cert;
+            };
+        fetched = before;
         made = Some make.number;
-        names = inr (record { make = make; is_make = is; oil_is = refl; c_is = refl; mode_is = refl; bound = refl });
+        names =
+            inr
+            (record {
+              make = make;
+              is_make = is;
+              oil_is = refl;
+              c_is = refl;
+              kept = refl;
+              mode_is = refl;
+              turns_are = refl;
+              budget_is = refl;
+              cert_is = refl;
+            });
         at = why;
       }
   run_of (asked.Show show) is ran why = absurd why
   run_of (asked.Replay replay) is ran why = absurd why
   run_of (asked.Check name) is ran why = absurd why
 
-  ran_good : (what : Asked) → IsAsked words what → (ran : Ran) → IsReplyTo what before after (reply.Ran ran) → verdict_status ran.verdict ≡ status.Good → Holds words before
-  ran_good what is ran why ends = let r = run_of what is ran why in run_good r.oil r.c r.mode r.k r.made r.names ran r.at ends
+  ran_good : (what : Asked) → IsAsked words what → (ran : Ran) → IsReplyTo what before after (reply.Ran ran) → decision_status ran.decision ≡ status.Good → Holds words before after
+  ran_good what is ran why ends = let r = run_of what is ran why in run_good r.of r.fetched r.made r.names ran r.at ran.decision refl ends
 
-  ran_failed : (what : Asked) → IsAsked words what → (ran : Ran) → IsReplyTo what before after (reply.Ran ran) → verdict_status ran.verdict ≡ status.Fails → HasFailed words before
-  ran_failed what is ran why ends = let r = run_of what is ran why in run_failed r.oil r.c r.mode r.k r.made r.names ran r.at ends
+  ran_failed : (what : Asked) → IsAsked words what → (ran : Ran) → IsReplyTo what before after (reply.Ran ran) → decision_status ran.decision ≡ status.Fails → HasFailed words before after
+  ran_failed what is ran why ends = let r = run_of what is ran why in run_failed r.of r.fetched r.made r.names ran r.at ran.decision refl ends
 
-  ran_other : (what : Asked) → IsAsked words what → (ran : Ran) → IsReplyTo what before after (reply.Ran ran) → (ended : Status) → is_of_run ended ≡ false → verdict_status ran.verdict ≡ ended → ⊥
-  ran_other what is ran why ended other ends = let r = run_of what is ran why in run_other r.oil r.c r.mode r.k r.made r.names ran r.at ended other ends
+  ran_undecided : (what : Asked) → IsAsked words what → (ran : Ran) → IsReplyTo what before after (reply.Ran ran) → decision_status ran.decision ≡ status.Undecided → IsUndecided words before after
+  ran_undecided what is ran why ends = let r = run_of what is ran why in run_undecided r.of r.fetched r.made r.names ran r.at ran.decision refl ends
 
   show_of : (what : Asked) → IsAsked words what → (shown : Shown) → IsReplyTo what before after (reply.Shown shown) → Shows words before
   show_of (asked.Run run) is shown why = absurd why
@@ -284,7 +363,7 @@ module _ (words : List (List ℕ)) (before after : DeskState) where
 
   -- ---- what was replied
 
-  good_of : (answer : Reply) → IsReply words before after answer → reply_status answer ≡ status.Good → Holds words before ⊎ (Shows words before ⊎ (Replays words before status.Good ⊎ HasGoodCert words before))
+  good_of : (answer : Reply) → IsReply words before after answer → reply_status answer ≡ status.Good → Holds words before after ⊎ (Shows words before ⊎ (Replays words before status.Good ⊎ HasGoodCert words before))
   good_of reply.Usage cause ends = absurd cc
   good_of reply.ReadFault cause ends = absurd cc
   good_of reply.OutOfMemory cause ends = absurd cc
@@ -294,7 +373,7 @@ module _ (words : List (List ℕ)) (before after : DeskState) where
   good_of (reply.Rerun rerun) cause ends = inr (inr (inl (rerun_ends cause.what cause.is rerun cause.why status.Good ends)))
   good_of (reply.Checked lines answered) cause ends = inr (inr (inr (checked_good cause.what cause.is lines answered cause.why ends)))
 
-  failed_of : (answer : Reply) → IsReply words before after answer → reply_status answer ≡ status.Fails → HasFailed words before ⊎ Replays words before status.Fails
+  failed_of : (answer : Reply) → IsReply words before after answer → reply_status answer ≡ status.Fails → HasFailed words before after ⊎ Replays words before status.Fails
   failed_of reply.Usage cause ends = absurd cc
   failed_of reply.ReadFault cause ends = absurd cc
   failed_of reply.OutOfMemory cause ends = absurd cc
@@ -309,33 +388,33 @@ module _ (words : List (List ℕ)) (before after : DeskState) where
   bad_of reply.ReadFault cause ends = absurd cc
   bad_of reply.OutOfMemory cause ends = absurd cc
   bad_of (reply.Refused refusal) cause ends = absurd cc
-  bad_of (reply.Ran ran) cause ends = absurd (ran_other cause.what cause.is ran cause.why status.NotPermitted refl ends)
+  bad_of (reply.Ran ran) cause ends = absurd (ran_other ran status.NotPermitted refl ends)
   bad_of (reply.Shown shown) cause ends = absurd cc
   bad_of (reply.Rerun rerun) cause ends = inl (rerun_ends cause.what cause.is rerun cause.why status.NotPermitted ends)
   bad_of (reply.Checked lines answered) cause ends = inr (checked_bad cause.what cause.is lines answered cause.why ends)
 
-  undecided_of : (answer : Reply) → IsReply words before after answer → reply_status answer ≡ status.Undecided → ⊥
+  undecided_of : (answer : Reply) → IsReply words before after answer → reply_status answer ≡ status.Undecided → IsUndecided words before after
   undecided_of reply.Usage cause ends = absurd cc
   undecided_of reply.ReadFault cause ends = absurd cc
   undecided_of reply.OutOfMemory cause ends = absurd cc
   undecided_of (reply.Refused refusal) cause ends = absurd cc
-  undecided_of (reply.Ran ran) cause ends = ran_other cause.what cause.is ran cause.why status.Undecided refl ends
+  undecided_of (reply.Ran ran) cause ends = ran_undecided cause.what cause.is ran cause.why ends
   undecided_of (reply.Shown shown) cause ends = absurd cc
-  undecided_of (reply.Rerun rerun) cause ends = differ is_decided (replay_status rerun.result) status.Undecided (replay_decided rerun.result) refl ends
-  undecided_of (reply.Checked lines answered) cause ends = check_other answered status.Undecided refl ends
+  undecided_of (reply.Rerun rerun) cause ends = absurd (differ is_decided (replay_status rerun.result) status.Undecided (replay_decided rerun.result) refl ends)
+  undecided_of (reply.Checked lines answered) cause ends = absurd (check_other answered status.Undecided refl ends)
 
   usage_of : (answer : Reply) → IsReply words before after answer → reply_status answer ≡ status.Usage → AreNone words
   usage_of reply.Usage cause ends = cause
   usage_of reply.ReadFault cause ends = absurd cc
   usage_of reply.OutOfMemory cause ends = absurd cc
   usage_of (reply.Refused refusal) cause ends = absurd cc
-  usage_of (reply.Ran ran) cause ends = absurd (differ is_told (verdict_status ran.verdict) status.Usage (run_told ran.verdict) refl ends)
+  usage_of (reply.Ran ran) cause ends = absurd (differ is_told (decision_status ran.decision) status.Usage (run_told ran.decision) refl ends)
   usage_of (reply.Shown shown) cause ends = absurd cc
   usage_of (reply.Rerun rerun) cause ends = absurd (differ is_told (replay_status rerun.result) status.Usage (replay_told rerun.result) refl ends)
   usage_of (reply.Checked lines answered) cause ends = absurd (differ is_told (check_status answered) status.Usage (check_told answered) refl ends)
 
   fault_of : (what : Asked) → IsReplyTo what before after reply.ReadFault → HasFetchFault what before after
-  fault_of (asked.Run run) why = why
+  fault_of (asked.Run run) why = why.0
   fault_of (asked.Make make) why = absurd why
   fault_of (asked.Show show) why = why
   fault_of (asked.Replay replay) why = why
@@ -346,30 +425,43 @@ module _ (words : List (List ℕ)) (before after : DeskState) where
   read_of reply.ReadFault cause ends = record { what = cause.what; is = cause.is; fault = fault_of cause.what cause.why }
   read_of reply.OutOfMemory cause ends = absurd cc
   read_of (reply.Refused refusal) cause ends = absurd cc
-  read_of (reply.Ran ran) cause ends = absurd (differ is_told (verdict_status ran.verdict) status.ReadFault (run_told ran.verdict) refl ends)
+  read_of (reply.Ran ran) cause ends = absurd (differ is_told (decision_status ran.decision) status.ReadFault (run_told ran.decision) refl ends)
   read_of (reply.Shown shown) cause ends = absurd cc
   read_of (reply.Rerun rerun) cause ends = absurd (differ is_told (replay_status rerun.result) status.ReadFault (replay_told rerun.result) refl ends)
   read_of (reply.Checked lines answered) cause ends = absurd (differ is_told (check_status answered) status.ReadFault (check_told answered) refl ends)
 
-module _ (words : List (List ℕ)) (before after : DeskState) (out_before out_after : SinkState) (ended : Status) (answered : IsAnswered words before after out_before out_after ended) where
+module _ (words : List (List ℕ)) (before after : DeskState) (out_before out_after : SinkState) (ended : Status) (answered : IsReplied words before after out_before out_after ended) where
   ends : (expected : Status) → is_of_reply expected ≡ true → ended ≡ expected → reply_status answered.answer ≡ expected
-  ends expected other is = ends_as answered.answer answered.result expected other (sym is ∙ answered.status)
+  ends expected other is = ends_as answered.answer answered.told.result expected other (sym is ∙ answered.told.status)
 
   -- where a command ends well, no permitted schedule of the texts fails, or the choices were replayed to the end, or the certificate is good
-  pub good_end : ended ≡ status.Good → Holds words before ⊎ (Shows words before ⊎ (Replays words before status.Good ⊎ HasGoodCert words before))
+  pub good_end : ended ≡ status.Good → Holds words before after ⊎ (Shows words before ⊎ (Replays words before status.Good ⊎ HasGoodCert words before))
   good_end is = good_of words before after answered.answer answered.cause (ends status.Good refl is)
 
   -- where it ends in a failure, some permitted schedule fails, or that of the words does
-  pub failed_end : ended ≡ status.Fails → HasFailed words before ⊎ Replays words before status.Fails
+  pub failed_end : ended ≡ status.Fails → HasFailed words before after ⊎ Replays words before status.Fails
   failed_end is = failed_of words before after answered.answer answered.cause (ends status.Fails refl is)
 
   -- where something isn't permitted, it is a choice of the schedule, or the certificate is bad
   pub bad_end : ended ≡ status.NotPermitted → Replays words before status.NotPermitted ⊎ HasBadCert words before
   bad_end is = bad_of words before after answered.answer answered.cause (ends status.NotPermitted refl is)
 
-  -- no command ends undecided
-  pub decided_end : ended ≡ status.Undecided → ⊥
-  decided_end is = undecided_of words before after answered.answer answered.cause (ends status.Undecided refl is)
+  -- where it ends undecided, the budget of a run was spent
+  pub undecided_end : ended ≡ status.Undecided → IsUndecided words before after
+  undecided_end is = undecided_of words before after answered.answer answered.cause (ends status.Undecided refl is)
+
+  -- where what the words ask for is refused, the line of the first fault was written
+  pub refused_end : ended ≡ status.Refused → IsRefused words before after out_before out_after
+  refused_end is =
+      let found = refused_reply answered.answer (ends status.Refused refl is) in
+      record {
+        refusal = found.0;
+        cause = subst (IsReply words before after) found.1 answered.cause;
+        written =
+            written_whole (reply_text (reply.Refused found.0)) out_before out_after found.0 answered.told.result
+            (subst (λ (a : Reply). Prints out_before out_after (reply_text a) answered.told.result) found.1 answered.told.written)
+            (sym is ∙ (answered.told.status ∙ ap (λ (a : Reply). status_after a answered.told.result) found.1));
+      }
 
   -- where the words are refused, they ask for nothing
   pub usage_end : ended ≡ status.Usage → AreNone words

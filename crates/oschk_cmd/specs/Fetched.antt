@@ -33,6 +33,13 @@ pub record HasBoth (desk : DeskState) (oil_name c_name oil c : List ℕ) : Type 
   pub has_oil : HasText desk text_limit oil_name oil
   pub has_c : HasText desk text_limit c_name c
 
+-- the desk had an OIL text and a C text of these names, and is as before after their fetches, but for its faults
+pub record AreFetched (oil_name c_name oil c : List ℕ) (before fetched : DeskState) : Type 0 where
+  pub both : HasBoth before oil_name c_name oil c
+  pub files : fetched.files ≡ before.files
+  pub current : fetched.current ≡ before.current
+  pub later : before.faults ≤ fetched.faults
+
 -- the OIL text, of this name, is too long
 pub record IsLongOil (desk : DeskState) (oil_name : List ℕ) (refusal : Refusal) : Type 0 where
   pub long : HasLongFile desk text_limit oil_name

@@ -72,6 +72,7 @@ pub fn reply_to_check<D: Desk>(alloc: Global, cert: &Text, desk: &mut D) -> Repl
     ensures reply { IsCheckReply cert.now (D.state desk.old) (D.state desk.new) result }
     ensures fit { IsFit result }
     ensures files { (D.state desk.new).files ≡ (D.state desk.old).files }
+    ensures current { (D.state desk.new).current ≡ (D.state desk.old).current }
 {
     match desk.fetch(alloc, cert, LIMIT) {
         Ok(text) => reply_to_text(alloc, &text),

@@ -26,6 +26,7 @@ pub fn fetch_both<D: Desk>(alloc: Global, desk: &mut D, oil: &Text, c: &Text) ->
     ensures fit { IfErr result IsFit }
     ensures later { (D.state desk.old).faults ≤ (D.state desk.new).faults }
     ensures files { (D.state desk.new).files ≡ (D.state desk.old).files }
+    ensures current { (D.state desk.new).current ≡ (D.state desk.old).current }
 {
     let oil = match desk.fetch(alloc, oil, LIMIT) {
         Ok(text) => text,

@@ -101,6 +101,7 @@ pub fn reply_to_replay<D: Desk>(alloc: Global, words: &ReplayWords, desk: &mut D
     ensures reply { IsReplayReply words.now (D.state desk.old) (D.state desk.new) result }
     ensures fit { IsFit result }
     ensures files { (D.state desk.new).files ≡ (D.state desk.old).files }
+    ensures current { (D.state desk.new).current ≡ (D.state desk.old).current }
 {
     let both = match fetch_both(alloc, desk, &words.oil, &words.c) {
         Ok(both) => both,

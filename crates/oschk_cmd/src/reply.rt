@@ -1,25 +1,24 @@
 // What a command replies, before anything is written.
-ghost use Rattle.std.specs.Prelude.{◌≡◌, is_some};
+ghost use Rattle.std.specs.Prelude.{◌≡◌, None, is_some};
 ghost use Rattle.report.specs.PrintedTexts.{plain_report};
-ghost use Rattle.oschk_cmd.specs.Replies.{check_status, is_fault, replay_status, reply_status, report_of, verdict_status};
+ghost use Rattle.report.specs.PrintedTexts as printed;
+ghost use Rattle.oschk_cmd.specs.Replies.{check_status, decision_status, is_fault, replay_status, reply_status, report_of};
 
 use crate::status::Status;
 use app_model::app::App;
+use decided_run::decision::Decision;
 use report::reports::{CertReport, Refusal, ReplayFault, Replayed, Report, Verdict};
 use step_ir::code::Code;
-use step_ir::event::Choices;
 
-/// The run of an application by at most so many turns: its verdict, its events, and its choices. `made` is the number to which its texts
-/// belong, where they were made.
+/// The run of an application by at most so many turns, and what is decided of it. `made` is the number to which its texts belong, where they
+/// were made.
 #[derive(Drop)]
 pub struct Ran {
     pub made: Option<u32>,
     pub app: App,
     pub code: Code,
     pub turns: u16,
-    pub verdict: Verdict,
-    pub replayed: Replayed,
-    pub choices: Choices,
+    pub decision: Decision,
 }
 
 /// An application and its code, as they are shown.
@@ -50,8 +49,13 @@ pub enum Reply {
     Checked { lines: u64, answer: CertReport },
 }
 
-fn ran_report<'a>(ran: &'a Ran) -> Report<'a>
-    ensures { plain_report result ≡ report_of (Reply.Ran ran.now) }
+/// The file of a certificate couldn't be written, so there is no reply.
+#[derive(Clone, Copy, PartialEq, Eq, Debug)]
+pub struct Unwritten;
+
+// A run without a failure.
+fn unfailed_report<'a>(ran: &'a Ran, verdict: Verdict) -> Report<'a>
+    ensures { plain_report result ≡ printed.Ran ran.now.made ran.now.app ran.now.code ran.now.turns 0 verdict None None }
 {
     Report::Ran {
         made: ran.made,
@@ -59,9 +63,28 @@ fn ran_report<'a>(ran: &'a Ran) -> Report<'a>
         code: &ran.code,
         turns: ran.turns,
         arrivals: 0,
-        verdict: ran.verdict,
-        replayed: Some(&ran.replayed),
-        choices: Some(&ran.choices),
+        verdict,
+        replayed: None,
+        choices: None,
+    }
+}
+
+fn ran_report<'a>(ran: &'a Ran) -> Report<'a>
+    ensures { plain_report result ≡ report_of (Reply.Ran ran.now) }
+{
+    match &ran.decision {
+        Decision::Holds => unfailed_report(ran, Verdict::Holds),
+        Decision::Fails(failing) => Report::Ran {
+            made: ran.made,
+            app: &ran.app,
+            code: &ran.code,
+            turns: ran.turns,
+            arrivals: 0,
+            verdict: Verdict::Fails,
+            replayed: Some(&failing.replayed),
+            choices: Some(&failing.choices),
+        },
+        Decision::Undecided => unfailed_report(ran, Verdict::Undecided),
     }
 }
 
@@ -91,13 +114,13 @@ pub fn report_of<'a>(reply: &'a Reply) -> Report<'a>
     }
 }
 
-fn verdict_status(verdict: Verdict) -> Status
-    ensures { result ≡ verdict_status verdict }
+fn decision_status(decision: &Decision) -> Status
+    ensures { result ≡ decision_status decision.now }
 {
-    match verdict {
-        Verdict::Holds => Status::Good,
-        Verdict::Fails => Status::Fails,
-        Verdict::Undecided => Status::Undecided,
+    match decision {
+        Decision::Holds => Status::Good,
+        Decision::Fails(_) => Status::Fails,
+        Decision::Undecided => Status::Undecided,
     }
 }
 
@@ -133,7 +156,7 @@ pub fn status_of(reply: &Reply) -> Status
         Reply::ReadFault => Status::ReadFault,
         Reply::OutOfMemory => Status::Memory,
         Reply::Refused(_) => Status::Refused,
-        Reply::Ran(ran) => verdict_status(ran.verdict),
+        Reply::Ran(ran) => decision_status(&ran.decision),
         Reply::Shown(_) => Status::Good,
         Reply::Rerun(rerun) => replay_status(&rerun.result),
         Reply::Checked { lines: _, answer } => check_status(*answer),

@@ -1,125 +1,150 @@
 // What is replied to the words of a run, and of one whose texts are made.
-ghost use Rattle.std.specs.Prelude.{◌≡◌, ◌≤◌, length, IfOk};
+ghost use Rattle.std.specs.Prelude.{◌≡◌, ◌≤◌, length, IfOk, IfErr};
 ghost use Rattle.std.specs.Option.{option_copied};
 ghost use Rattle.app_model.specs.InOrder.{IsInOrder};
-ghost use Rattle.one_run.specs.OneRun.{TakesNoInput};
-ghost use Rattle.report.specs.Printing.{AreFit};
 ghost use Rattle.step_ir.specs.Fits.{Fits};
 ghost use Rattle.oschk_cmd.specs.Fit.{IsFit};
-ghost use Rattle.oschk_cmd.specs.Runs.{IsMakeReply, IsRanOf, IsRunReply, IsTextsReply, verdict_of};
+ghost use Rattle.oschk_cmd.specs.Runs.{AreUnwritten, IsBounded, IsMakeReply, IsMakeUnwritten, IsRunReply, IsRunReplyOf, IsRunUnwritten, IsTextsReply, IsUnwrittenOf};
 
-use crate::fetch::{LIMIT, fetch_both};
-use crate::reply::{Ran, Reply};
+use crate::fetch::{Both, LIMIT, fetch_both};
+use crate::reply::{Ran, Reply, Unwritten};
 use app_generator::generate::generate;
-use chk_base::desk::Desk;
+use cert_text::front::Bounds;
+use chk_base::desk::{Desk, PutFault};
 use chk_base::text::Text;
 use command_words::asked::{MakeWords, RunWords};
-use one_run::inputs::takes_no_input;
-use one_run::run::{one_run, steps};
-use report::reports::Verdict;
-use std::alloc::{AllocError, Global};
-use step_ir::event::Failure;
+use decided_run::decide::decide_run;
+use std::alloc::Global;
 use text_stages::prepare::{Prepared, prepare_run};
 use text_stages::stop::Stop;
 
-fn verdict_of(failure: Option<Failure>) -> Verdict
-    ensures { result ≡ verdict_of failure }
+// The run of what was prepared.
+#[tactic(auto, using(crate::proofs::Told::undone_told))]
+fn reply_to_prepared<D: Desk>(
+    alloc: Global,
+    desk: &mut D,
+    prepared: Prepared,
+    bounds: Bounds,
+    cert: &Text,
+    made: Option<u32>,
+) -> Result<Reply, Unwritten>
+    requires order { IsInOrder prepared.app }
+    requires fits { Fits prepared.app prepared.code }
+    requires bounded { IsBounded bounds.turns bounds.budget }
+    requires arrivals { bounds.arrivals ≡ 0 }
+    ensures reply { IfOk result (IsRunReplyOf prepared.app prepared.code bounds cert.now made (D.state desk.old) (D.state desk.new)) }
+    ensures fit { IfOk result IsFit }
+    ensures unwritten { IfErr result (λ _. IsUnwrittenOf prepared.app prepared.code bounds cert.now (D.state desk.old) (D.state desk.new)) }
 {
-    match failure {
-        Some(_) => Verdict::Fails,
-        None => Verdict::Holds,
+    match decide_run(alloc, desk, &prepared.app, &prepared.code, bounds, cert) {
+        Ok(decision) => Ok(Reply::Ran(Ran {
+            made,
+            app: prepared.app,
+            code: prepared.code,
+            turns: bounds.turns,
+            decision,
+        })),
+        Err(PutFault::Memory) => Ok(Reply::OutOfMemory),
+        Err(PutFault::Failed) => Err(Unwritten),
     }
 }
 
-// The one run.
-fn ran(alloc: Global, prepared: Prepared, turns: u16, made: Option<u32>) -> Result<Ran, AllocError>
-    requires order { IsInOrder prepared.app }
-    requires fits { Fits prepared.app prepared.code }
-    requires no_input { TakesNoInput prepared.code }
-    ensures ran { IfOk result (IsRanOf prepared.app prepared.code turns made) }
-    ensures fit { IfOk result (λ ran. AreFit ran.app ran.code) }
-{
-    let replayed = one_run(alloc, &prepared.app, &prepared.code, turns)?;
-    let choices = steps(alloc, replayed.events.len())?;
-    let verdict = verdict_of(replayed.failure);
-    Ok(Ran {
-        made,
-        app: prepared.app,
-        code: prepared.code,
-        turns,
-        verdict,
-        replayed,
-        choices,
-    })
-}
-
-// What two texts lead to. No token of the C text asks for an input, so the code takes none. That is tested again, since no contract below says
-// so, and want of memory is answered if it should.
-fn reply_to_texts(
+// What two texts lead to.
+fn reply_to_texts<D: Desk>(
     alloc: Global,
-    oil: &Text,
-    c: &Text,
+    desk: &mut D,
+    both: &Both,
     mode: Option<&Text>,
-    turns: u16,
+    bounds: Bounds,
+    cert: &Text,
     made: Option<u32>,
-) -> Reply
-    requires oil { length oil.now ≤ 262144 }
-    requires c { length c.now ≤ 262144 }
-    ensures reply { IsTextsReply oil.now c.now (option_copied mode.entry) turns made result }
-    ensures fit { IsFit result }
+) -> Result<Reply, Unwritten>
+    requires oil { length both.now.oil ≤ 262144 }
+    requires c { length both.now.c ≤ 262144 }
+    requires bounded { IsBounded bounds.turns bounds.budget }
+    requires arrivals { bounds.arrivals ≡ 0 }
+    ensures reply { IfOk result (IsTextsReply both.now.oil both.now.c (option_copied mode.entry) bounds cert.now made (D.state desk.old) (D.state desk.new)) }
+    ensures fit { IfOk result IsFit }
+    ensures unwritten { IfErr result (λ _. AreUnwritten both.now.oil both.now.c (option_copied mode.entry) bounds cert.now (D.state desk.old) (D.state desk.new)) }
 {
-    match prepare_run(alloc, oil, c, mode, turns) {
-        Ok(prepared) => {
-            if takes_no_input(&prepared.code) {
-                match ran(alloc, prepared, turns, made) {
-                    Ok(ran) => Reply::Ran(ran),
-                    Err(_) => Reply::OutOfMemory,
-                }
-            } else {
-                Reply::OutOfMemory
-            }
-        }
-        Err(Stop::Refused(refusal)) => Reply::Refused(refusal),
-        Err(Stop::Memory) => Reply::OutOfMemory,
+    match prepare_run(alloc, &both.oil, &both.c, mode, bounds.turns) {
+        Ok(prepared) => reply_to_prepared(alloc, desk, prepared, bounds, cert, made),
+        Err(Stop::Refused(refusal)) => Ok(Reply::Refused(refusal)),
+        Err(Stop::Memory) => Ok(Reply::OutOfMemory),
     }
 }
 
 /// What is replied to the words of a run.
-pub fn reply_to_run<D: Desk>(alloc: Global, run: &RunWords, desk: &mut D) -> Reply
-    ensures reply { IsRunReply run.now (D.state desk.old) (D.state desk.new) result }
-    ensures fit { IsFit result }
-    ensures files { (D.state desk.new).files ≡ (D.state desk.old).files }
+///
+/// # Errors
+///
+/// Only where the desk failed at the begin of the certificate's file or at an append to it.
+pub fn reply_to_run<D: Desk>(
+    alloc: Global,
+    run: &RunWords,
+    desk: &mut D,
+) -> Result<Reply, Unwritten>
+    requires { IsBounded run.now.turns run.now.budget }
+    ensures reply { IfOk result (IsRunReply run.now (D.state desk.old) (D.state desk.new)) }
+    ensures fit { IfOk result IsFit }
+    ensures unwritten { IfErr result (λ _. IsRunUnwritten run.now (D.state desk.old) (D.state desk.new)) }
 {
+    let bounds = Bounds {
+        turns: run.turns,
+        arrivals: 0,
+        budget: run.budget,
+    };
     match fetch_both(alloc, desk, &run.oil, &run.c) {
         Ok(both) => reply_to_texts(
             alloc,
-            &both.oil,
-            &both.c,
+            desk,
+            &both,
             run.mode.as_ref(),
-            run.turns,
+            bounds,
+            &run.cert,
             None,
         ),
-        Err(reply) => reply,
+        Err(reply) => Ok(reply),
     }
 }
 
 /// What is replied to the words of a run whose texts belong to a number. Texts that are too long for a run are none that were made.
-pub fn reply_to_make(alloc: Global, make: &MakeWords) -> Reply
-    ensures reply { IsMakeReply make.now result }
-    ensures fit { IsFit result }
+///
+/// # Errors
+///
+/// Only where the desk failed at the begin of the certificate's file or at an append to it.
+pub fn reply_to_make<D: Desk>(
+    alloc: Global,
+    make: &MakeWords,
+    desk: &mut D,
+) -> Result<Reply, Unwritten>
+    requires { IsBounded make.now.turns make.now.budget }
+    ensures reply { IfOk result (IsMakeReply make.now (D.state desk.old) (D.state desk.new)) }
+    ensures fit { IfOk result IsFit }
+    ensures unwritten { IfErr result (λ _. IsMakeUnwritten make.now (D.state desk.old) (D.state desk.new)) }
 {
     let Ok(texts) = generate(alloc, make.number, make.arrivals) else {
-        return Reply::OutOfMemory;
+        return Ok(Reply::OutOfMemory);
     };
     if texts.oil.as_bytes().len() as u64 > LIMIT || texts.c.as_bytes().len() as u64 > LIMIT {
-        return Reply::OutOfMemory;
+        return Ok(Reply::OutOfMemory);
     }
+    let both = Both {
+        oil: texts.oil,
+        c: texts.c,
+    };
+    let bounds = Bounds {
+        turns: make.turns,
+        arrivals: 0,
+        budget: make.budget,
+    };
     reply_to_texts(
         alloc,
-        &texts.oil,
-        &texts.c,
+        desk,
+        &both,
         None,
-        make.turns,
+        bounds,
+        &make.cert,
         Some(make.number),
     )
 }

@@ -35,6 +35,7 @@ pub fn reply_to_show<D: Desk>(alloc: Global, show: &ShowWords, desk: &mut D) -> 
     ensures reply { IsShowReply show.now (D.state desk.old) (D.state desk.new) result }
     ensures fit { IsFit result }
     ensures files { (D.state desk.new).files ≡ (D.state desk.old).files }
+    ensures current { (D.state desk.new).current ≡ (D.state desk.old).current }
 {
     match fetch_both(alloc, desk, &show.oil, &show.c) {
         Ok(both) => reply_to_texts(alloc, &both.oil, &both.c, show.mode.as_ref()),

@@ -2,9 +2,10 @@
 ghost use Rattle.std.specs.Prelude.{◌≡◌};
 ghost use Rattle.oschk_cmd.specs.Status.{number_of};
 
-/// How a command ends: with `Good` where the verdict is that nothing fails; with `Fails`; with `Undecided`; with `Refused` where a text is
-/// refused; with `Usage` where the words are those of no command; with `ReadFault` and `WriteFault` where a file or the output fails; with
-/// `Memory` where memory runs out; and with `NotPermitted` where a schedule or a certificate is refused at a step.
+/// How a command ends: with `Good` where a run holds, an application is shown, a replay ends without a failure, or a certificate is good; with
+/// `Fails` where a run or a replay fails; with `Undecided`; with `Refused` where a text is refused; with `Usage` where the words are those of no
+/// command; with `ReadFault` where a file can't be read; with `WriteFault` where the output or the file of a certificate can't be written; with
+/// `Memory` where memory runs out; and with `NotPermitted` where a choice of a schedule isn't permitted, or a certificate is bad.
 #[derive(Clone, Copy, PartialEq, Eq, Debug)]
 pub enum Status {
     Good,

@@ -750,6 +750,3 @@ impl<'a> Machine<'a> {
         self.answer(choice)
     }
 }
-
-#[cfg(test)]
-mod tests;

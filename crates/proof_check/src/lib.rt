@@ -2,10 +2,6 @@
 #![tactic(auto)]
 
 pub mod cert;
-#[cfg(test)]
-mod cert_tests;
 pub mod check;
 pub mod checker;
 mod left;
-#[cfg(test)]
-mod tests;

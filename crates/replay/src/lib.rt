@@ -3,6 +3,4 @@
 
 pub mod run;
 pub mod schedule;
-#[cfg(test)]
-mod tests;
 mod value;

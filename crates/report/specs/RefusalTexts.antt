@@ -31,7 +31,6 @@ refusal_text (why.CToken place) = place_line (codes "refused C TOKEN") place
 refusal_text (why.CEnd place) = place_line (codes "refused C END") place
 refusal_text (why.CRule rule place) = rule_line (codes "refused C RULE C") rule place
 refusal_text (why.StaticRule rule place) = rule_line (codes "refused C RULE S") rule place
-refusal_text (why.FormOil place) = place_line (codes "refused FORM OIL") place
 refusal_text (why.FormC place) = place_line (codes "refused FORM C") place
 refusal_text (why.Points number) = limit_line (codes "refused POINTS ") number (codes "2048")
 refusal_text (why.Cells number) = limit_line (codes "refused CELLS ") number (codes "8192")

@@ -11,6 +11,4 @@ mod replays;
 pub mod reports;
 mod runs;
 mod shows;
-#[cfg(test)]
-mod tests;
 pub mod writing;

@@ -56,7 +56,6 @@ pub fn put_refusal<S: Sink>(out: &mut S, refusal: Refusal) -> Result<(), WriteFa
         Refusal::CEnd(place) => put_at(out, b"refused C END", place),
         Refusal::CRule(rule, place) => put_rule(out, b"refused C RULE C", rule, place),
         Refusal::StaticRule(rule, place) => put_rule(out, b"refused C RULE S", rule, place),
-        Refusal::FormOil(place) => put_at(out, b"refused FORM OIL", place),
         Refusal::FormC(place) => put_at(out, b"refused FORM C", place),
         Refusal::Points(number) => put_limit(out, b"refused POINTS ", number, b"2048"),
         Refusal::Cells(number) => put_limit(out, b"refused CELLS ", number, b"8192"),

@@ -42,8 +42,8 @@ pub enum ReplayFault {
 }
 
 /// Why texts are refused. A text is too long; it has its first fault at this place, or breaks the rule of this number there, rules A of the OIL
-/// text, C of the C text and S of both; its counts of points or cells, its points by turns, or its cells by turns are this number and past their
-/// limit; or it isn't of the form that is taken.
+/// text, C of the C text and S of both; its count of points or of bits of cells, its weight by turns, or those bits by turns are this number and
+/// past their limit; or, as `FormC`, it asks for an input at this place, which no run takes.
 #[derive(Clone, Copy, PartialEq, Eq, Debug)]
 pub enum Refusal {
     OilByte(Place),
@@ -58,7 +58,6 @@ pub enum Refusal {
     CEnd(Place),
     CRule(u8, Place),
     StaticRule(u8, Place),
-    FormOil(Place),
     FormC(Place),
     Points(u64),
     Cells(u64),

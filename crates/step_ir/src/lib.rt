@@ -4,5 +4,3 @@
 pub mod code;
 pub mod event;
 pub mod law;
-#[cfg(test)]
-mod tests;

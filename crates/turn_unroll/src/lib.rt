@@ -13,8 +13,6 @@ mod rows;
 pub mod run;
 mod stack;
 mod start;
-#[cfg(test)]
-mod tests;
 mod turn;
 pub mod unroll;
 mod ways;

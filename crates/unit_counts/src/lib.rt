@@ -6,6 +6,4 @@ pub mod counts;
 mod expressions;
 mod names;
 pub mod tally;
-#[cfg(test)]
-mod tests;
 pub mod things;

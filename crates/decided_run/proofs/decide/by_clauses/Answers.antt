@@ -9,4 +9,4 @@ returns-in_err-decision_of-clause-undone g c =
     rw p.1
     (ran_out c.args.app.now c.args.code.now c.args.bounds c.args.cert.now
     (g.D.Desk.state c.args.desk.now) (g.D.Desk.state c.begin.new.self) (g.D.Desk.state c.decide_and_write.new.desk)
-    c.in_ok-verdict.verdict p.0 p.2 c.in_ok-begin.ensures has.certified.whole has.means)
+    c.in_ok-verdict.verdict p.0 p.2 c.requires.form c.in_ok-begin.ensures has.certified.whole has.means)

@@ -36,9 +36,6 @@ returns-in-CRule g c = rw c.in-CRule.is c.put_rule-in-CRule.ensures
 pub returns-in-StaticRule : goal.returns-in-StaticRule
 returns-in-StaticRule g c = rw c.in-StaticRule.is c.put_rule-in-StaticRule.ensures
 
-pub returns-in-FormOil : goal.returns-in-FormOil
-returns-in-FormOil g c = rw c.in-FormOil.is c.put_at-in-FormOil.ensures
-
 pub returns-in-FormC : goal.returns-in-FormC
 returns-in-FormC g c = rw c.in-FormC.is c.put_at-in-FormC.ensures
 

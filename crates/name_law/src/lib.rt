@@ -1,0 +1,4 @@
+//! The names of the tasks and routines that OIL texts describe.
+#![tactic(auto)]
+
+pub mod law;
