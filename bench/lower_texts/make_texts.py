@@ -21,6 +21,11 @@ def cells(arrays, words=0):
     return "".join(f"uint32_t a{i}[64];\n" for i in range(arrays)) + "".join(f"uint32_t v{i};\n" for i in range(words))
 
 
+# So many signed words of 32.
+def signed(words):
+    return "".join(f"int32_t v{i};\n" for i in range(words))
+
+
 # Functions of which each but the last calls the next one so many times.
 def chain(functions, calls):
     called = [f"f{i + 1}(); " * calls for i in range(functions - 1)] + ["a0[0] = 1; "]
@@ -40,6 +45,15 @@ def sum_of(reads):
     return "v0=" + "+".join(f"v{i}" for i in range(reads)) + ";\n"
 
 
+def wide_sum(reads):
+    left, parts = reads, []
+    while left:
+        part = min(63, left)
+        parts.append("(" + "+".join(f"v{i}" for i in range(part)) + ")")
+        left -= part
+    return "v0=" + "+".join(parts) + ";\n"
+
+
 def nested(reads):
     return "v0=" + "a0[" * reads + "0" + "]" * reads + ";\n"
 
@@ -52,6 +66,8 @@ def main(folder):
         "assignments": (cells(4), "a0[0]=1;\n" * POINTS),
         "operators": (cells(4), ("a0[0]=1" + "+1" * 58 + ";\n") * POINTS),
         "sums": (cells(2, 64), sum_of(64) * 31 + sum_of(30)),
+        "signed_sums": (cells(2) + signed(64), sum_of(64) * 31 + sum_of(30)),
+        "wide_sum": (cells(0) + signed(64), wide_sum(POINTS - 1)),
         "indices": (cells(3, 1), nested(63) * 31 + nested(61)),
         "else_ifs": (cells(3, 63), "if(v0==0){}\n" + "else if(v1==1){}\n" * 1022),
         "ifs": (cells(3, 63), "if(v0==0){}else{}\n" * 1023),

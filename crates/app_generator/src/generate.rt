@@ -1,5 +1,5 @@
 // Both texts.
-ghost use Rattle.std.specs.Prelude.{◌≡◌, IfOk};
+ghost use Rattle.std.specs.Prelude.{◌≡◌, ◌≤◌, IfOk, length};
 ghost use Rattle.app_generator.specs.Generated.{generated_c, generated_oil};
 
 use crate::draws::Draws;
@@ -14,10 +14,12 @@ pub struct Generated {
     pub c: Text,
 }
 
-/// The application of this number, 0 to 2^32 - 1. Its first task asserts what holds where at most so many interrupts arrive.
+/// The application of this number, 0 to 2^32 - 1. Its first task asserts what holds where at most so many interrupts arrive. Each text has
+/// at most 262,144 bytes.
 pub fn generate(alloc: Global, number: u32, arrivals: u8) -> Result<Generated, AllocError>
     ensures oil { IfOk result (λ g. g.oil ≡ generated_oil number) }
     ensures c { IfOk result (λ g. g.c ≡ generated_c number arrivals) }
+    ensures short { IfOk result (λ g. (length g.oil ≤ 262144) × (length g.c ≤ 262144)) }
 {
     let mut draws = Draws { state: number };
     let tasks = 2 + draws.draw(7);

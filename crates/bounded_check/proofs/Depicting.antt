@@ -14,7 +14,7 @@ use Rattle.guard_prog.specs.Drafts.{plain_alternatives}
 use Rattle.guard_prog.specs.GuardedRun.{IsRun, IsRunTo, PlainAlternative, Program, State}
 use Rattle.guard_prog.specs.Laws.{PrefixesAreRuns}
 use Rattle.one_stack.specs.Built.{concat_below, table}
-use Rattle.one_stack.specs.BuildExact.{IsExact, choices_of}
+use Rattle.one_stack.specs.BuildExact.{IsExact, NamesActors, choices_of}
 use Rattle.one_stack.specs.declared.label.Label.{Label}
 use Rattle.one_stack.specs.Labelled.{IsTaken, Takes, chosen_by, label_at, labels_of, most_in, most_of}
 use Rattle.step_ir.specs.declared.event.Choice.{Choice}
@@ -163,7 +163,7 @@ shifted n m = go (n == m) refl
     go : (b : Bool) → (n == m) ≡ b → (suc n == suc m) ≡ (n == m)
     go b e = grind (arith, nat_tests)
 
-module _ {S G : Type 0} (app : Setting) (beh : Behaviour S G) (globals : G) (m : ℕ) (stopped : (choices : List Choice) (events : List Event) (s : Stacked S G) → OneStackMachine.run app beh choices (OneStackMachine.start app beh globals) ≡ Some (events, s) → fails events ≡ s.is_stopped) (prefixes : PrefixesAreRuns) (p : Program) (labels : List Label) (exact : IsExact app beh globals m p (chosen_by labels)) where
+module _ {S G : Type 0} (app : Setting) (beh : Behaviour S G) (globals : G) (m : ℕ) (stopped : (choices : List Choice) (events : List Event) (s : Stacked S G) → OneStackMachine.run app beh choices (OneStackMachine.start app beh globals) ≡ Some (events, s) → fails events ≡ s.is_stopped) (prefixes : PrefixesAreRuns) (p : Program) (labels : List Label) (exact : IsExact app beh globals m p (chosen_by labels)) (names : NamesActors app beh globals p labels) where
   -- a run that ends like the machine does
   record IsLike (pairs : List (ℕ × ℕ)) (events : List Event) (s : Stacked S G) : Type 0 where
     state : State
@@ -245,6 +245,7 @@ module _ {S G : Type 0} (app : Setting) (beh : Behaviour S G) (globals : G) (m :
           turns = d.turns;
           listed = listed;
           named = named;
+          actors = λ v model events s l. let r = d.runs v model in names.acts (read e v) r.state r.is.is events s l.is;
           once = d.once;
           padding = d.padding;
           lists = lists;

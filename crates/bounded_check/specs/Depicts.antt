@@ -6,7 +6,7 @@ use Rattle.clause_form.specs.ClauseTruth.{Values, Agree, is_clause_true}
 use Rattle.clause_form.specs.Literals.{AreOf, IsClause, has}
 use Rattle.one_stack.specs.BuildExact.{choices_of}
 use Rattle.one_stack.specs.declared.label.Label.{Label}
-use Rattle.one_stack.specs.Labelled.{TakesWord, chosen_by}
+use Rattle.one_stack.specs.Labelled.{AreActors, TakesWord, chosen_by}
 use Rattle.step_ir.specs.declared.event.Choice.{Choice}
 use Rattle.step_ir.specs.declared.event.Event.{Event}
 use Rattle.step_ir.specs.EntityStep.{Behaviour}
@@ -68,9 +68,10 @@ pub record HoldsFailures {S G : Type 0} (e : PlainEncoding) (labels : List Label
 -- the assignments that make the formula true are the choice lists of at most k turns and m arrivals of the machine, one for each
 pub record Depicts {S G : Type 0} (e : PlainEncoding) (labels : List Label) (app : Setting) (beh : Behaviour S G) (globals : G) (k m : ℕ) : Type 0 where
   pub turns : length e.alternatives ≡ k
-  -- label 0 is the padding and has no entity; each other label is one of the list, and has an entity of the application
+  -- label 0 is the padding and has no entity; each other label is one of the list, has an entity of the application, and is read where that entity acts
   pub listed : ReadsListed e labels
   pub named : AreNamed app.entities labels
+  pub actors : (v : Values) → IsModel v e.formula → (events : List Event) (s : Stacked S G) → LeadsTo app beh globals (choices_read e labels v) events s → AreActors labels (read e v) events
   -- (a) each turn has exactly one true label literal, label 0 is followed by label 0 alone, and what is read is a choice list
   pub once : (v : Values) → IsModel v e.formula → (t : ℕ) → t < k → trues v (row_of e.alternatives t) ≡ 1
   pub padding : (v : Values) → IsModel v e.formula → (t : ℕ) → suc t < k → first_true v (row_of e.alternatives t) ≡ 0 → first_true v (row_of e.alternatives (suc t)) ≡ 0

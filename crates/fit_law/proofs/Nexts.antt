@@ -7,7 +7,7 @@ use Rattle.step_ir.specs.declared.code.Code.{Code}
 use Rattle.step_ir.specs.Fits.{EndsInOne, is_last, ReadsOwn, IsActionFit, AreTrapsFit, AreNextsFit, IsPointFit}
 use Rattle.step_ir.specs.Points.{PlainAction, PlainPoint, points_in}
 use Rattle.lower_law.specs.Items.{Item, Site, Check, guarded}
-use Rattle.lower_law.specs.Lowered.{Nexts, all_guarded, always, cut, entry, thing}
+use Rattle.lower_law.specs.Lowered.{Nexts, all_guarded, always, behind, cut, entry, thing}
 use Rattle.lower_law.proofs.Sizes.{count}
 use Rattle.fit_law.proofs.Expressions.{AreRead, AreItemsFit, guarded_read}
 
@@ -16,7 +16,7 @@ pub length_thing : (number : ℕ → ℕ) (place : Place) (action : PlainAction)
 length_thing number place action nexts traps at [] = refl
 length_thing number place action nexts traps at (Check g t f ∷ is) = length_thing number place action nexts (traps ++ (guarded g t, f) ∷ []) at is
 length_thing number place action nexts traps at (Site g t into ∷ is) =
-    let h = length_thing number place action nexts traps (at + 1) is in omega arith
+    let h = length_thing number place action nexts (behind g traps) (at + 1) is in omega arith
 
 -- an item before others, of which the last is the constant 1
 one_cons : (x : Term × ℕ) (xs : Nexts) → 1 ≤ length xs → EndsInOne xs → EndsInOne (x ∷ xs)
@@ -60,6 +60,11 @@ module _ (code : Code) (e : ℕ) where
   traps_add [] x h r l m = (r, l, m, tt)
   traps_add (y ∷ ys) x h r l m = (h.0, h.1, h.2, traps_add ys x h.3 r l m)
 
+  -- those behind a read
+  traps_behind : (g : List Term) (xs : List (Term × ℕ)) → AreTrapsFit code e xs → AreTrapsFit code e (behind g xs)
+  traps_behind [] xs h = tt
+  traps_behind (t ∷ ts) xs h = h
+
   module _ (app : App) where
     -- points of the entity fit
     abbrev pub ArePointsFit : List PlainPoint → Type 0
@@ -90,4 +95,4 @@ module _ (code : Code) (e : ℕ) where
         thing_fit number total inside place action nexts c (traps ++ (guarded g t, k) ∷ []) at is (traps_add traps (guarded g t, k) r f.0 f.1 f.2) f.3 lt
     thing_fit number total inside place action nexts c traps at (Site g t into ∷ is) r f lt =
         let n = goes_entry number total inside is (at + 1) f.4 (omega arith) in
-        (record { action = (f.1, f.2, f.3); traps = r; nexts = n.fit; goes_on = λ h. n.some; ends_in_one = n.one }, thing_fit number total inside place action nexts c traps (at + 1) is r f.4 (omega arith))
+        (record { action = (f.1, f.2, f.3); traps = r; nexts = n.fit; goes_on = λ h. n.some; ends_in_one = n.one }, thing_fit number total inside place action nexts c (behind g traps) (at + 1) is (traps_behind g traps r) f.4 (omega arith))

@@ -7,7 +7,7 @@ use Rattle.chk_base.specs.Term.{Term, Const}
 use Rattle.step_ir.specs.Points.{PlainAction}
 use Rattle.step_ir.specs.PointStep.{Bits, val, first, or_zero}
 use Rattle.lower_law.specs.Items.{Item, Site, Check, guarded, sites_all, terms_all, items_all}
-use Rattle.lower_law.specs.Lowered.{Nexts, Plan, action_of, always, close_entry, entry, entry_all, entry_of_entity, nexts_of, outer, own_points, plan_to, size, size_all, thing}
+use Rattle.lower_law.specs.Lowered.{Nexts, Plan, action_of, always, behind, close_entry, entry, entry_all, entry_of_entity, nexts_of, outer, own_points, plan_to, size, size_all, thing}
 use Rattle.lower_law.specs.Statements.{CellStatement, Set, Write, WriteAt, If, Loop, Assert, Input, Call, Return, Serve, Block, CellBlock, Nil, Cons, CellFunction, CellUnit, questions, place_of, rooms_to}
 use Rattle.lower_law.proofs.Sizes.{AreSized, length_own, sized_to}
 use Rattle.lower_law.proofs.Things.{entry_first, next_at}
@@ -19,8 +19,8 @@ next_low : (v : Term → ℕ) (number : ℕ → ℕ) (place : Place) (action : P
 next_low v number place action nexts [] traps at = omega arith
 next_low v number place action nexts (Check g t f ∷ is) traps at = next_low v number place action nexts is (traps ++ (guarded g t, f) ∷ []) at
 next_low v number place action nexts (Site g t into ∷ is) traps at =
-    let ih = next_low v number place action nexts is traps (at + 1) in
-    by (holds v g) (next_at 0 v (at + 1) is) (length (thing number place action nexts traps (at + 1) is)) ih
+    let ih = next_low v number place action nexts is (behind g traps) (at + 1) in
+    by (holds v g) (next_at 0 v (at + 1) is) (length (thing number place action nexts (behind g traps) (at + 1) is)) ih
   where
     by : (b : Bool) (next long : ℕ) → next < at + 1 + long → (if b then at else next) < at + suc long
     by true next long h = omega arith

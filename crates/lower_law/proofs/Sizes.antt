@@ -8,7 +8,7 @@ use Rattle.step_ir.specs.Points.{PlainAction}
 use Rattle.lower_law.specs.Typed.{BinaryOperator, Multiply, Divide, Remainder, Add, Subtract, ShiftLeft, ShiftRight, UnaryOperator, Minus, CellExpr, Number, Local, Global, Element, Binary, Unary, Conjunction, Disjunction, Conditional, Converted}
 use Rattle.lower_law.specs.Items.{Item, Site, Check, guarded, sites, division_checks, binary_checks, unary_checks, term, items, sites_all, terms_all, items_all, checks_of}
 use Rattle.lower_law.specs.Statements.{CellStatement, Set, Write, WriteAt, If, Loop, Assert, Input, Call, Return, Serve, Block, CellBlock, Nil, Cons, CellFunction, CellUnit, questions, place_of, room, room_all, rooms_to}
-use Rattle.lower_law.specs.Lowered.{Nexts, Context, Plan, entry, thing, own, size, size_all, entry_all, own_points, own_items, action_of, nexts_of, callee, points_one, points_all, close_entry, closing, closing_size, plan_of, plan_to}
+use Rattle.lower_law.specs.Lowered.{Nexts, Context, Plan, behind, entry, thing, own, size, size_all, entry_all, own_points, own_items, action_of, nexts_of, callee, points_one, points_all, close_entry, closing, closing_size, plan_of, plan_to}
 
 abbrev pub count : List Item → ℕ
 count [] = 0
@@ -101,7 +101,7 @@ length_thing : (number : ℕ → ℕ) (place : Place) (action : PlainAction) (ne
 length_thing number place action nexts traps at [] = refl
 length_thing number place action nexts traps at (Check g t f ∷ is) = length_thing number place action nexts (traps ++ (guarded g t, f) ∷ []) at is
 length_thing number place action nexts traps at (Site g t into ∷ is) =
-    let h = length_thing number place action nexts traps (at + 1) is in omega arith
+    let h = length_thing number place action nexts (behind g traps) (at + 1) is in omega arith
 
 -- every plan has as many points as it says
 pub record AreSized (calls : ℕ → Plan) : Type 0 where

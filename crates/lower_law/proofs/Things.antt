@@ -14,7 +14,7 @@ use Rattle.step_ir.specs.Numbers.{put}
 use Rattle.step_ir.specs.Services.{fault}
 use Rattle.lower_law.specs.Items.{Item, Site, Check, guarded}
 use Rattle.lower_law.proofs.Walk.{Seen, Reads, Stops, Through, holds, walk}
-use Rattle.lower_law.specs.Lowered.{Nexts, entry, thing}
+use Rattle.lower_law.specs.Lowered.{Nexts, behind, entry, thing}
 use Rattle.lower_law.proofs.Terms.{IsIn, SameBelow, same_put, within_more, all_more, holds_same, guarded_truth, value_same}
 use Rattle.lower_law.proofs.Lists.{Ordered, TargetIn}
 
@@ -54,6 +54,10 @@ module _ (lo : ℕ) where
   traps_more n m [] le h = tt
   traps_more n m (x ∷ xs) le h = (within_more lo n m x.0 le h.0, traps_more n m xs le h.1)
 
+  within_behind : (g : List Term) (m : ℕ) (xs : List (Term × ℕ)) → TrapsWithin m xs → TrapsWithin m (behind g xs)
+  within_behind [] m xs h = tt
+  within_behind (t ∷ ts) m xs h = h
+
   traps_add : (m : ℕ) (xs : List (Term × ℕ)) (x : Term × ℕ) → TrapsWithin m xs → IsIn lo m x.0 → TrapsWithin m (xs ++ x ∷ [])
   traps_add m [] x h w = (w, tt)
   traps_add m (y ∷ ys) x h w = (h.0, traps_add m ys x h.1 w)
@@ -78,6 +82,10 @@ module _ (lo : ℕ) where
       go : (b : Bool) → (if b then Some y.1 else first (val width bits) ys) ≡ Some f → (first (val width bits) ys ≡ Some f → first (val width bits) (ys ++ x ∷ []) ≡ Some f) → (if b then Some y.1 else first (val width bits) (ys ++ x ∷ [])) ≡ Some f
       go true h ih = h
       go false h ih = ih h
+
+    clear_behind : (g : List Term) (xs : List (Term × ℕ)) (bits : Bits) → first (val width bits) xs ≡ None → first (val width bits) (behind g xs) ≡ None
+    clear_behind [] xs bits h = refl
+    clear_behind (t ∷ ts) xs bits h = h
 
   -- the position of the next read whose guard holds, or else of the completing point
   abbrev pub next_at : (Term → ℕ) → ℕ → List Item → ℕ
@@ -164,7 +172,7 @@ module _ (lo : ℕ) where
       here_place : (is : List Item) (at : ℕ) (traps : List (Term × ℕ)) → Stands number code at (thing number place action nexts traps at is) → place_at (code (number (next_at (val width own) at is))) ≡ place
       here_place [] at traps s = ap place_at s.0
       here_place (Check g t f ∷ is) at traps s = here_place is at (traps ++ (guarded g t, f) ∷ []) s
-      here_place (Site g t into ∷ is) at traps s = go (holds (val width own) g) (here_place is (at + 1) traps s.1) where
+      here_place (Site g t into ∷ is) at traps s = go (holds (val width own) g) (here_place is (at + 1) (behind g traps) s.1) where
         go : (b : Bool) → place_at (code (number (next_at (val width own) (at + 1) is))) ≡ place → place_at (code (number (if b then at else next_at (val width own) (at + 1) is))) ≡ place
         go true e = ap place_at s.0
         go false e = e
@@ -172,7 +180,9 @@ module _ (lo : ℕ) where
       failing : (is : List Item) (at f : ℕ) (traps : List (Term × ℕ)) → IsQuiet action → Stands number code at (thing number place action nexts traps at is) → first (val width bits) traps ≡ Some f → step width (code (number (next_at (val width own) at is))) bits ≡ Fails (fault f)
       failing [] at f traps q s e = ap (λ o. step width o bits) s.0 ∙ ap (λ o. unless width o (record { place = place; action = action; traps = traps; nexts = nexts }) bits) e ∙ quiet_fails width action (fault f) q
       failing (Check g t k ∷ is) at f traps q s e = failing is at f (traps ++ (guarded g t, k) ∷ []) q s (first_kept width traps (guarded g t, k) f bits e)
-      failing (Site g t into ∷ is) at f traps q s e = go (holds (val width own) g) (failing is (at + 1) f traps q s.1 e) where
+      failing (Site [] t into ∷ is) at f traps q s e =
+          ap (λ o. step width o bits) s.0 ∙ ap (λ o. unless width o (record { place = place; action = Read t into; traps = traps; nexts = entry number (at + 1) is }) bits) e
+      failing (Site (u ∷ us) t into ∷ is) at f traps q s e = go (holds (val width own) (u ∷ us)) (failing is (at + 1) f traps q s.1 e) where
         go : (b : Bool) → step width (code (number (next_at (val width own) (at + 1) is))) bits ≡ Fails (fault f) → step width (code (number (if b then at else next_at (val width own) (at + 1) is))) bits ≡ Fails (fault f)
         go true ih = ap (λ o. step width o bits) s.0 ∙ ap (λ o. unless width o (record { place = place; action = Read t into; traps = traps; nexts = entry number (at + 1) is }) bits) e
         go false ih = ih
@@ -209,12 +219,12 @@ module _ (lo : ℕ) where
             busy = record {
               left = is;
               at = at + 1;
-              traps = traps;
+              traps = behind g traps;
               m = into + 1;
               walked = λ more. ap (walk width is0 own0) (append_assoc got (b ∷ []) more) ∙ walked (b ∷ more) ∙ site_on g t into b is more h;
               stands = s.1;
-              clear = first_same width traps m own own' within (same_put lo m into b own o.0) ∙ clear;
-              within = traps_more m (into + 1) traps (let l = o.0 in omega arith) within;
+              clear = clear_behind width g traps own' (first_same width traps m own own' within (same_put lo m into b own o.0) ∙ clear);
+              within = within_behind g (into + 1) traps (traps_more m (into + 1) traps (let l = o.0 in omega arith) within);
               ordered = o.4;
               calm = calm_of action is q;
               low = let l = o.0 in omega arith;
@@ -231,7 +241,7 @@ module _ (lo : ℕ) where
         go : (b : Bool) → truth (val width own (guarded g t)) ≡ b → (truth (val width own (guarded g t)) ≡ false → Comes place action nexts is0 own0 got (number (next_at (val width own) at is)) own bits (walk width is own [])) → Comes place action nexts is0 own0 got (number (next_at (val width own) at is)) own bits (if b then Stops f else walk width is own [])
         go true e ih = failing is at f (traps ++ (guarded g t, f) ∷ []) q s (clear_bits m (traps ++ (guarded g t, f) ∷ []) (Some f) high (traps_add m traps (guarded g t, f) within o.0) (first_add width traps (guarded g t, f) own clear ∙ ap (λ b. if b then Some f else None) e))
         go false e ih = ih e
-      scan (Site g t into ∷ is) at m traps q s clear within o low high same walked = go (holds (val width own) g) refl (λ e. scan is (at + 1) (into + 1) traps (calm_of action is q) s.1 clear (traps_more m (into + 1) traps (let l = o.0 in omega arith) within) o.4 (let l = o.0 in omega arith) (let l = o.1 in omega arith) same (λ more. walked more ∙ site_off g t into is more e)) where
+      scan (Site g t into ∷ is) at m traps q s clear within o low high same walked = go (holds (val width own) g) refl (λ e. scan is (at + 1) (into + 1) (behind g traps) (calm_of action is q) s.1 (clear_behind width g traps own clear) (within_behind g (into + 1) traps (traps_more m (into + 1) traps (let l = o.0 in omega arith) within)) o.4 (let l = o.0 in omega arith) (let l = o.1 in omega arith) same (λ more. walked more ∙ site_off g t into is more e)) where
         go : (b : Bool) → holds (val width own) g ≡ b → (holds (val width own) g ≡ false → Comes place action nexts is0 own0 got (number (next_at (val width own) (at + 1) is)) own bits (walk width is own [])) → Comes place action nexts is0 own0 got (number (if b then at else next_at (val width own) (at + 1) is)) own bits (if b then Reads (cell_of (val width own) t) (width (cell_of (val width own) t)) (inside (val width own) t) else walk width is own [])
         go true h ih = there (inside (val width own) t) refl where
           there : (d : Bool) → inside (val width own) t ≡ d → Comes place action nexts is0 own0 got (number at) own bits (Reads (cell_of (val width own) t) (width (cell_of (val width own) t)) d)

@@ -73,6 +73,11 @@ abbrev pub closing_size : Bool → ℕ
 closing_size true = 0
 closing_size false = 1
 
+-- the tests that are looked at again behind a read with this guard: none where it comes in any case, since its point has looked at all
+abbrev pub behind : List Term → List (Term × ℕ) → List (Term × ℕ)
+behind [] traps = []
+behind (t ∷ ts) traps = traps
+
 -- `number` is the number of the point at a position
 module _ (number : ℕ → ℕ) where
   -- at this position in any case
@@ -90,12 +95,12 @@ module _ (number : ℕ → ℕ) where
   entry at (Check g t f ∷ is) = entry at is
   entry at (Site g t into ∷ is) = cut g at (entry (at + 1) is)
 
-  -- a point for each read, and one that completes the thing, each with all tests before it as traps
+  -- a point for each read, and one that completes the thing, each with the tests as traps that come before it and behind the last read without a guard
   abbrev pub thing : Place → PlainAction → Nexts → List (Term × ℕ) → ℕ → List Item → List PlainPoint
   thing place action nexts traps at [] = record { place = place; action = action; traps = traps; nexts = nexts } ∷ []
   thing place action nexts traps at (Check g t f ∷ is) = thing place action nexts (traps ++ (guarded g t, f) ∷ []) at is
   thing place action nexts traps at (Site g t into ∷ is) =
-      record { place = place; action = Read t into; traps = traps; nexts = entry (at + 1) is } ∷ thing place action nexts traps (at + 1) is
+      record { place = place; action = Read t into; traps = traps; nexts = entry (at + 1) is } ∷ thing place action nexts (behind g traps) (at + 1) is
 
   -- where the end of a body begins
   abbrev pub close_entry : Bool → Context → ℕ → Nexts

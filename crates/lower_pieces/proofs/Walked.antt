@@ -1,10 +1,10 @@
 -- One more of a list that is gone through.
-use Rattle.std.proofs.Common.{◌≡◌, ℕ, ◌+◌, ◌<◌, List, ◌∷◌, ◌++◌, length, drop, get_or, min, refl, ap, sym, subst, ◌∙◌, ◌≤◌, arith, [], zero, suc}
+use Rattle.std.proofs.Common.{◌≡◌, ℕ, ◌+◌, ◌<◌, List, ◌∷◌, ◌++◌, length, drop, get_or, min, Option, append_assoc, refl, ap, ap₂, sym, subst, ◌∙◌, ◌≤◌, arith, [], zero, suc}
 use Rattle.std.specs.Prelude.{map}
 use Rattle.std.proofs.lemmas.List.{drop_more, drop_all}
 use Rattle.chk_base.specs.declared.expr.Expr.{Expr}
 use Rattle.chk_base.specs.declared.place.Place.{Place}
-use Rattle.step_ir.specs.Points.{PlainAction, PlainPoint}
+use Rattle.step_ir.specs.Points.{PlainAction, PlainPoint, PlainTarget, Read}
 use Rattle.step_ir.specs.Points as code
 use Rattle.chk_base.specs.Term.{Term, term_of}
 use Rattle.lower_law.specs.Lowered.{sets}
@@ -13,8 +13,8 @@ use Rattle.lower_law.specs.Statements.{Cons, block}
 use Rattle.lower_pieces.specs.declared.evaluation.Item.{Item}
 use Rattle.lower_pieces.specs.declared.tree.ExpressionTree.{ExpressionTree}
 use Rattle.lower_pieces.specs.declared.tree.StatementTree.{StatementTree}
-use Rattle.lower_pieces.specs.Joined.{item_of, items_of}
-use Rattle.lower_pieces.specs.Steps.{thing_joined}
+use Rattle.lower_pieces.specs.Joined.{JoinedItem, Reads, item_of, items_of}
+use Rattle.lower_pieces.specs.Steps.{behind_joined, entry_joined, thing_joined}
 use Rattle.lower_pieces.specs.Trees.{tree_of, statement_of}
 
 pub block_more : (ss : List StatementTree) (i : ℕ) (d : StatementTree) → i < length ss → block (map statement_of (drop i ss)) ≡ Cons (statement_of (get_or ss i d)) (block (map statement_of (drop (i + 1) ss)))
@@ -58,6 +58,17 @@ sets_end cell (p ∷ ps) (t ∷ ts) (suc i) h = sets_end cell ps ts i (omega ari
 -- a point that does this
 abbrev completing : Place → List (Term × ℕ) → List (Term × ℕ) → PlainAction → List PlainPoint
 completing place traps nexts action = record { place = place; action = action; traps = traps; nexts = nexts } ∷ []
+
+-- one more item that is a read, whose point is there
+pub thing_read : (number : ℕ → ℕ) (place : Place) (action : PlainAction) (nexts traps left : List (Term × ℕ)) (at : ℕ) (g : Option Term) (t : PlainTarget) (n : ℕ) (is : List JoinedItem) (points whole new : List PlainPoint)
+    → whole ≡ points ++ thing_joined number place action nexts traps at (Reads g t n ∷ is)
+    → new ≡ points ++ (record { place = place; action = Read t n; traps = traps; nexts = entry_joined number (at + 1) is } ∷ [])
+    → left ≡ behind_joined g traps
+    → whole ≡ new ++ thing_joined number place action nexts left (at + 1) is
+thing_read number place action nexts traps left at g t n is points whole new e f h =
+    e
+    ∙ sym (append_assoc points (record { place = place; action = Read t n; traps = traps; nexts = entry_joined number (at + 1) is } ∷ []) (thing_joined number place action nexts (behind_joined g traps) (at + 1) is))
+    ∙ ap₂ (λ ps xs. ps ++ thing_joined number place action nexts xs (at + 1) is) (sym f) (sym h)
 
 -- at the end of the items a thing is completed
 pub thing_done : (number : ℕ → ℕ) (place : Place) (action action' : PlainAction) (nexts traps : List (Term × ℕ)) (at : ℕ) (is : List Item) (i : ℕ) (points whole new : List PlainPoint)

@@ -1,17 +1,18 @@
 // The points of one thing: one for each of its reads, and one that completes it.
-ghost use Rattle.std.specs.Prelude.{◌≡◌, ◌+◌, ◌++◌, ◌∷◌, [], ◌<◌, ◌≤◌, ◌^◌, IfOk, OnOk, map};
+ghost use Rattle.std.specs.Prelude.{◌≡◌, ◌+◌, ◌++◌, ◌∷◌, [], ◌<◌, ◌≤◌, ◌^◌, IfOk, OnOk, map, option_map};
 ghost use Rattle.chk_base.specs.Term.{term_of, Const};
 ghost use Rattle.step_ir.specs.Points.{plain_of, plain_action, target_of, item_of, Read};
 ghost use Rattle.lower_law.specs.Exact.{exchanged};
 ghost use Rattle.lower_law.specs.Lowered.{always};
 ghost use Rattle.lower_pieces.specs.Joined.{items_of};
-ghost use Rattle.lower_pieces.specs.Steps.{reads_in, cut_joined, entry_joined, thing_joined};
+ghost use Rattle.lower_pieces.specs.Steps.{behind_joined, reads_in, cut_joined, entry_joined, thing_joined};
 
 use crate::copies::{copy, copy_target};
 use crate::evaluation::Item;
 use chk_base::expr::Expr;
 use chk_base::place::Place;
 use std::alloc::{AllocError, Global};
+use std::mem;
 use step_ir::code::{Action, Nexts, Point, Target, Traps};
 
 /// The number of the point at a position: those at 0 and `first` change places.
@@ -93,26 +94,40 @@ pub fn entry(alloc: Global, first: u16, at: u16, items: &[Item]) -> Result<Nexts
     Ok(nexts)
 }
 
+// The traps of a read's point, and in their place those that are needed behind it: none where the read comes in any case.
+fn tested(alloc: Global, guard: &Option<Expr>, traps: &mut Traps) -> Result<Traps, AllocError>
+    ensures traps { IfOk result (λ t. map item_of t ≡ map item_of traps.old) }
+    ensures behind { OnOk result (map item_of traps.new ≡ behind_joined (option_map term_of guard.now) (map item_of traps.old)) }
+{
+    match guard {
+        None => Ok(mem::replace(traps, Traps::new(alloc))),
+        Some(_) => copy_traps(alloc, traps),
+    }
+}
+
 // The point of a read, after which the rest of the items follows.
-fn read_point(
+fn read(
     alloc: Global,
+    points: &mut Vec<Point>,
+    traps: &mut Traps,
     place: Place,
+    guard: &Option<Expr>,
     target: &Target,
     into: u16,
-    traps: &Traps,
     next: Nexts,
-) -> Result<Point, AllocError>
-    ensures { IfOk result (λ p. plain_of p ≡ record { place = place; action = Read (target_of target.now) into; traps = map item_of traps.now; nexts = map item_of next }) }
+) -> Result<(), AllocError>
+    ensures points { OnOk result (map plain_of points.new.items ≡ map plain_of points.old.items ++ (record { place = place; action = Read (target_of target.now) into; traps = map item_of traps.old; nexts = map item_of next } ∷ [])) }
+    ensures traps { OnOk result (map item_of traps.new ≡ behind_joined (option_map term_of guard.now) (map item_of traps.old)) }
 {
-    Ok(Point {
+    let target = copy_target(alloc, target)?;
+    let traps = tested(alloc, guard, traps)?;
+    points.push(Point {
         place,
-        action: Action::Read {
-            target: copy_target(alloc, target)?,
-            into,
-        },
-        traps: copy_traps(alloc, traps)?,
+        action: Action::Read { target, into },
+        traps,
         next,
-    })
+    })?;
+    Ok(())
 }
 
 // The point that completes a thing.
@@ -135,7 +150,7 @@ fn complete(
 }
 
 /// The points of a thing with these items at this position, behind those that there are.
-#[tactic(auto, using(crate::proofs::Walked::items_more, std::proofs::Common::append_assoc))]
+#[tactic(auto, using(crate::proofs::Walked::items_more, crate::proofs::Walked::thing_read, std::proofs::Common::append_assoc))]
 pub fn thing(
     alloc: Global,
     points: &mut Vec<Point>,
@@ -154,10 +169,14 @@ pub fn thing(
     for (i, item) in items.iter().enumerate() {
         match item {
             Item::Test { test, failure } => traps.push((copy(alloc, test)?, *failure))?,
-            Item::Read { target, into, .. } => {
+            Item::Read {
+                guard,
+                target,
+                into,
+            } => {
                 at += 1;
                 let rest = entry(alloc, first, at, &items[i + 1..])?;
-                points.push(read_point(alloc, place, target, *into, &traps, rest)?)?;
+                read(alloc, points, &mut traps, place, guard, target, *into, rest)?;
             }
         }
     }

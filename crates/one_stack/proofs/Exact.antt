@@ -53,11 +53,28 @@ pub record IsStarting (app : Setting) (code : PlainCode) (plan : Plan) (p : Prog
   pub first : reverse p.first ≡ places plan (machine.start app (steps_of code) code.start).stack
   pub few : (t : ℕ) → t < plan.tasks → times t app.autostart ≤ app.limit t
 
+-- the label is one of the entity that acts in the event
+pub record IsOf (app : Setting) (plan : Plan) (label : ℕ) (e : Event) : Type 0 where
+  pub known : e.actor.0 < app.entities
+  pub number : ℕ
+  pub is : label ≡ plan.label e.actor.0 number
+
+-- and so is each label of a run
+abbrev pub AreOf : Setting → Plan → List (ℕ × ℕ) → List Event → Type 0
+AreOf app plan [] [] = Unit {0}
+AreOf app plan [] (e ∷ es) = ⊥
+AreOf app plan (x ∷ xs) [] = ⊥
+AreOf app plan (x ∷ xs) (e ∷ es) = IsOf app plan x.0 e × AreOf app plan xs es
+
+-- in each run of the program
+pub record AreActing (app : Setting) (code : PlainCode) (plan : Plan) (p : Program) (chosen : ℕ → ℕ → Choice) : Type 0 where
+  pub each : (pairs : List (ℕ × ℕ)) (s : Standing) → run p pairs (start_of p) ≡ Some s → (events : List Event) (m : Stacked ℕ Bits) → machine.run app (steps_of code) (choices_of chosen pairs) (machine.start app (steps_of code) code.start) ≡ Some (events, m) → AreOf app plan pairs events
+
 module _ (app : Setting) (sound : IsSound app) (code : PlainCode) {resources : ℕ} (form : IsTaskForm app resources code) (plan : Plan) (p : Program) (chosen : ℕ → ℕ → Choice) (made : IsProgram app code plan p chosen) where
   -- one step of both: either neither goes on, or exactly one pair of label and word is taken, and exactly Go is permitted
   data Stepping (s : Standing) (m : Stacked ℕ Bits) : Type 0 where
     Dead : ((x : ℕ × ℕ) → turn p s x ≡ None) → ((c : Choice) → machine.step app (steps_of code) m c ≡ None) → Stepping s m
-    Live : (x : ℕ × ℕ) (t : Standing) (e : Event) (n : Stacked ℕ Bits) → turn p s x ≡ Some t → ((y : ℕ × ℕ) (u : Standing) → turn p s y ≡ Some u → y ≡ x) → chosen x.0 x.1 ≡ Go → machine.step app (steps_of code) m Go ≡ Some (e, n) → ((c : Choice) (z : Event × Stacked ℕ Bits) → machine.step app (steps_of code) m c ≡ Some z → c ≡ Go) → Meets app code plan p t n → Stepping s m
+    Live : (x : ℕ × ℕ) (t : Standing) (e : Event) (n : Stacked ℕ Bits) → turn p s x ≡ Some t → ((y : ℕ × ℕ) (u : Standing) → turn p s y ≡ Some u → y ≡ x) → chosen x.0 x.1 ≡ Go → machine.step app (steps_of code) m Go ≡ Some (e, n) → IsOf app plan x.0 e → ((c : Choice) (z : Event × Stacked ℕ Bits) → machine.step app (steps_of code) m c ≡ Some z → c ≡ Go) → Meets app code plan p t n → Stepping s m
 
   reached_by : (o : Option (Event × State ℕ Bits)) (e : Event) (n : Stacked ℕ Bits) → HaveSame app o (Some (e, n)) → IsReached app n
   reached_by None e n h = absurd h
@@ -132,6 +149,7 @@ module _ (app : Setting) (sound : IsSound app) (code : PlainCode) {resources : �
       (alone s (plan.label f.who) gone.fired.rule o runs' gone.fired.led.plainly)
       (made.labels f.who o.number)
       (stepped gone.deed gone.is)
+      (record { known = form.entities f.who f.state point meets.shaped.known.0.is; number = o.number; is = refl })
       only
       gone.fired.led.meets
     where
@@ -203,19 +221,20 @@ module _ (app : Setting) (sound : IsSound app) (code : PlainCode) {resources : �
     pub state : Stacked ℕ Bits
     pub permitted : machine.run app (steps_of code) (choices_of chosen xs) m ≡ Some (events, state)
     pub none : arrivals_in (choices_of chosen xs) ≡ 0
+    pub acts : AreOf app plan xs events
     pub meets : Meets app code plan p t state
 
   forward : (xs : List (ℕ × ℕ)) (s : Standing) (m : Stacked ℕ Bits) (t : Standing) → Meets app code plan p s m → run p xs s ≡ Some t → IsForward xs m t
   forward [] s m t meets h =
       let same : s ≡ t = cc in
-      record { events = []; state = m; permitted = refl; none = refl; meets = subst (λ u. Meets app code plan p u m) same meets }
+      record { events = []; state = m; permitted = refl; none = refl; acts = tt; meets = subst (λ u. Meets app code plan p u m) same meets }
   forward (y ∷ ys) s m t meets h = go (steps_alike s m meets) (λ u n k j. forward ys u n t k j)
     where
       go : Stepping s m → ((u : Standing) (n : Stacked ℕ Bits) → Meets app code plan p u n → run p ys u ≡ Some t → IsForward ys n t) → IsForward (y ∷ ys) m t
       go (Dead turns steps) ih =
           let none : ◌≡◌ {A = Option Standing} None (Some t) = sym (ap (turns_from (run p ys)) (turns y)) ∙ h in
           absurd (cc)
-      go (Live x u e n taken alone is_go step only next) ih = found (turn p s y) refl
+      go (Live x u e n taken alone is_go step who only next) ih = found (turn p s y) refl
         where
           found : (o : Option Standing) → turn p s y ≡ o → IsForward (y ∷ ys) m t
           found None k =
@@ -233,6 +252,7 @@ module _ (app : Setting) (sound : IsSound app) (code : PlainCode) {resources : �
                     ap (λ c. follow (machine.step app (steps_of code) m c) (machine.run app (steps_of code) (choices_of chosen ys))) choice
                     ∙ (ap (λ o. follow o (machine.run app (steps_of code) (choices_of chosen ys))) step ∙ ap (prepend e) rest.permitted);
                 none = ap (λ c. arrivals_in (c ∷ choices_of chosen ys)) choice ∙ rest.none;
+                acts = (subst (λ (z : ℕ × ℕ). IsOf app plan z.0 e) (sym same) who, rest.acts);
                 meets = rest.meets;
               }
 
@@ -251,7 +271,7 @@ module _ (app : Setting) (sound : IsSound app) (code : PlainCode) {resources : �
       go (Dead turns steps) ih =
           let none : ◌≡◌ {A = Option (List Event × Stacked ℕ Bits)} None (Some r) = sym (ap (λ o. follow o (machine.run app (steps_of code) cs)) (steps c)) ∙ h in
           absurd (cc)
-      go (Live x u e n taken alone is_go step only next) ih = found (machine.step app (steps_of code) m c) refl
+      go (Live x u e n taken alone is_go step who only next) ih = found (machine.step app (steps_of code) m c) refl
         where
           found : (o : Option (Event × Stacked ℕ Bits)) → machine.step app (steps_of code) m c ≡ o → IsBackward (c ∷ cs) s
           found None k =
@@ -293,7 +313,7 @@ module _ (app : Setting) (sound : IsSound app) (code : PlainCode) {resources : �
       go (Dead turns steps) ih =
           let none : ◌≡◌ {A = Option Standing} None (Some t) = sym (ap (turns_from (run p xs)) (turns x)) ∙ h in
           absurd (cc)
-      go (Live z a e n taken alone is_go step only next) ih = found (turn p s x) refl (turn p s y) refl
+      go (Live z a e n taken alone is_go step who only next) ih = found (turn p s x) refl (turn p s y) refl
         where
           found : (o : Option Standing) → turn p s x ≡ o → (q : Option Standing) → turn p s y ≡ q → x ∷ xs ≡ y ∷ ys
           found None e q f =
@@ -411,3 +431,18 @@ module _ (app : Setting) (sound : IsSound app) (code : PlainCode) {resources : �
             record { pairs = b.pairs; state = b.state; runs = b.runs; same = b.same };
         unique = λ xs ys s t h k same. single xs ys (start_of p) (machine.start app (steps_of code) code.start) s t (begins_alike init) h k same;
       }
+
+  -- each label of a run is of the entity that acts
+  pub acting : IsStarting app code plan p → AreActing app code plan p chosen
+  acting init =
+      record {
+        each =
+            λ pairs s h events m k.
+            let f : IsForward pairs (machine.start app (steps_of code) code.start) s = forward pairs (start_of p) (machine.start app (steps_of code) code.start) s (begins_alike init) h in
+            subst (AreOf app plan pairs) (same_events f.events events f.state m (sym f.permitted ∙ k)) f.acts;
+      }
+    where
+      same_events : (xs ys : List Event) (n m : Stacked ℕ Bits) → ◌≡◌ {A = Option (List Event × Stacked ℕ Bits)} (Some (xs, n)) (Some (ys, m)) → xs ≡ ys
+      same_events xs ys n m e =
+          let f : ◌≡◌ {A = List Event × Stacked ℕ Bits} (xs, n) (ys, m) = cc in
+          ap (λ (z : List Event × Stacked ℕ Bits). z.0) f

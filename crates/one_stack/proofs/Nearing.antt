@@ -1,8 +1,9 @@
 -- The points of a code of the form are near, and what the labels of a program stand for.
-use Rattle.std.proofs.Common.{◌≡◌, ◌∙◌, ℕ, zero, suc, ◌-◌, ◌<◌, ◌≤◌, ◌^◌, Bool, true, false, ◌&&◌, ◌==◌, nat_le, nat_lt, List, [], ◌∷◌, length, map, Some, slice_get, refl, sym, ap, subst, arith}
+use Rattle.std.proofs.Common.{◌≡◌, ◌∙◌, ℕ, zero, suc, ◌+◌, ◌-◌, ◌*◌, ◌%◌, ◌<◌, ◌≤◌, ◌^◌, max, Bool, true, false, ◌&&◌, ◌==◌, nat_le, nat_lt, List, [], ◌∷◌, length, map, Option, Some, None, slice_get, refl, sym, ap, subst, arith, mul_comm}
 use Rattle.std.proofs.lemmas.Bool.{and_parts}
 use Rattle.std.proofs.lemmas.Bool.Decides.{nat_tests}
 use Rattle.std.proofs.lemmas.List.{length-map}
+use Rattle.std.proofs.lemmas.Nat.{mod-mul-add}
 use Rattle.std.proofs.lemmas.Option.{slice_get-get_or, slice_get_past}
 use Rattle.std.specs.List.{list_all}
 use mathlib.Core.Path.{fun_ext}
@@ -11,18 +12,22 @@ use Rattle.chk_base.specs.Term.{Term}
 use Rattle.guard_prog.specs.declared.draft.Alternative.{Alternative}
 use Rattle.guard_prog.specs.declared.draft.Draft.{Draft}
 use Rattle.guard_prog.specs.WellShaped.{IsWellShaped, starts_fit}
-use Rattle.one_stack.specs.Built.{go_alone, table}
+use Rattle.one_stack.specs.Built.{go_alone, plan_of, table}
 use Rattle.one_stack.specs.declared.label.Label.{Label}
-use Rattle.one_stack.specs.Labelled.{IsTaken, TakesWord, chosen, chosen_by, label_at, labels_of, most_of}
+use Rattle.one_stack.specs.Labelled.{AreActors, IsActor, IsTaken, TakesWord, chosen, chosen_by, label_at, labels_of, most_of}
 use Rattle.one_stack.specs.Near.{AreAllNear, AreNear, IsWriteNear}
+use Rattle.one_stack.specs.PlainCode.{PlainCode}
 use Rattle.one_stack.specs.TaskForm.{is_form_action, is_form_entity, is_form_point, is_task_form}
+use Rattle.one_stack.proofs.Exact.{AreOf, IsOf}
 use Rattle.one_stack.proofs.Tabling.{get_or-table, length-table}
 use Rattle.step_ir.specs.declared.code.Code.{Code}
 use Rattle.step_ir.specs.declared.code.EntityCode.{EntityCode}
 use Rattle.step_ir.specs.declared.code.Point.{Point}
 use Rattle.step_ir.specs.declared.event.Choice.TheVariants.{Go}
+use Rattle.step_ir.specs.declared.event.Event.{Event}
 use Rattle.step_ir.specs.Fits.{AreNextsFit, Fits, IsActionFit, bit_count, point_count}
 use Rattle.step_ir.specs.Points.{PlainAction, Read, Write, Local, Branch, Input, Call, Return, Invoke, Assert, End, PlainPoint, cells_of, item_of, plain_action, plain_of, points_in, points_of}
+use Rattle.step_ir.specs.Setting.{Setting}
 
 few_nexts : (ps : List Point) (i : ℕ) (p : PlainPoint) → list_all is_form_point ps ≡ true → slice_get (map plain_of ps) i ≡ Some p → length p.nexts ≤ 2048
 few_nexts [] i p all is = cc
@@ -80,29 +85,42 @@ few_points d shaped =
     let few = (and_parts (nat_le (length d.points) (2 ^ 16)) (nat_lt (length d.widths) (2 ^ 16) && starts_fit d.widths d.starts) some).0 in
     grind (arith, nat_tests, few)
 
--- each label of these stands for a step without a word
-stands : (n : ℕ) (f : ℕ → Label) → ((k word : ℕ) → chosen (Some (f k)) word ≡ Go) → (k word : ℕ) → chosen (slice_get (table n f) k) word ≡ Go
-stands n f steps k word = go (nat_lt k n) refl where
-  go : (b : Bool) → nat_lt k n ≡ b → chosen (slice_get (table n f) k) word ≡ Go
+-- what holds of no label, and of the one with this number, holds of what a table has there
+anywhere : (P : Option Label → Type 0) (n : ℕ) (f : ℕ → Label) (k : ℕ) → P None → P (Some (f k)) → P (slice_get (table n f) k)
+anywhere P n f k none some = go (nat_lt k n) refl where
+  go : (b : Bool) → nat_lt k n ≡ b → P (slice_get (table n f) k)
   go true e =
       let below : k < n = grind (arith, nat_tests, e) in
-      ap (λ o. chosen o word) (slice_get-get_or (table n f) k (f 0) (omega (arith, length-table n f, below)) ∙ ap Some (get_or-table n k f (f 0) below)) ∙ steps k word
-  go false e = ap (λ o. chosen o word) (slice_get_past (table n f) k (grind (arith, nat_tests, e, length-table n f)))
+      subst P (sym (slice_get-get_or (table n f) k (f 0) (omega (arith, length-table n f, below)) ∙ ap Some (get_or-table n k f (f 0) below))) some
+  go false e = subst P (sym (slice_get_past (table n f) k (grind (arith, nat_tests, e, length-table n f)))) none
+
+-- each label stands for a step without a word
 
 pub all_go : (entities : ℕ) (points : List (List Alternative)) (labels : List Label) → labels ≡ labels_of entities points → go_alone ≡ chosen_by labels
 all_go entities points labels is =
-    fun_ext (λ l. fun_ext (λ word. sym (stands (most_of points) (label_at entities points) (λ k w. refl) (l - 1) word)))
+    fun_ext (λ l. fun_ext (λ word. sym (anywhere (λ o. chosen o word ≡ Go) (most_of points) (label_at entities points) (l - 1) refl refl)))
     ∙ ap chosen_by (sym is)
 
 -- each takes every word
-takes : (n : ℕ) (f : ℕ → Label) → ((k word : ℕ) → IsTaken (Some (f k)) word) → (k word : ℕ) → IsTaken (slice_get (table n f) k) word
-takes n f steps k word = go (nat_lt k n) refl where
-  go : (b : Bool) → nat_lt k n ≡ b → IsTaken (slice_get (table n f) k) word
-  go true e =
-      let below : k < n = grind (arith, nat_tests, e) in
-      subst (λ o. IsTaken o word) (sym (slice_get-get_or (table n f) k (f 0) (omega (arith, length-table n f, below)) ∙ ap Some (get_or-table n k f (f 0) below))) (steps k word)
-  go false e = subst (λ o. IsTaken o word) (sym (slice_get_past (table n f) k (grind (arith, nat_tests, e, length-table n f)))) tt
-
 pub all_take : (entities : ℕ) (points : List (List Alternative)) (labels : List Label) → labels ≡ labels_of entities points → (l word : ℕ) → TakesWord labels l word
 all_take entities points labels is l word =
-    subst (λ ls. TakesWord ls l word) (sym is) (takes (most_of points) (label_at entities points) (λ k w. tt) (l - 1) word)
+    subst (λ ls. TakesWord ls l word) (sym is) (anywhere (λ o. IsTaken o word) (most_of points) (label_at entities points) (l - 1) tt tt)
+
+-- each is of the entity that acts
+acts_at : (app : Setting) (code : PlainCode) (resources : ℕ) (points : List (List Alternative)) (l : ℕ) (e : Event) → IsOf app (plan_of app code resources) l e → IsActor (slice_get (labels_of app.entities points) (l - 1)) e
+acts_at app code resources points l e of' =
+    anywhere (λ o. IsActor o e) (most_of points) (label_at app.entities points) (l - 1) tt
+    (ap (λ n. n % max app.entities 1) place ∙ ap (λ n. (of'.number * app.entities + e.actor.0) % n) some ∙ mod-mul-add of'.number app.entities e.actor.0 of'.known)
+  where
+    some : max app.entities 1 ≡ app.entities
+    some = let below = of'.known in omega (arith, below)
+
+    place : l - 1 ≡ of'.number * app.entities + e.actor.0
+    place = let is = of'.is in omega (arith, is, mul_comm app.entities of'.number)
+
+pub all_act : (app : Setting) (code : PlainCode) (resources : ℕ) (points : List (List Alternative)) (labels : List Label) → labels ≡ labels_of app.entities points → (pairs : List (ℕ × ℕ)) (events : List Event) → AreOf app (plan_of app code resources) pairs events → AreActors labels pairs events
+all_act app code resources points labels is [] [] are = tt
+all_act app code resources points labels is [] (e ∷ es) are = absurd are
+all_act app code resources points labels is (x ∷ xs) [] are = absurd are
+all_act app code resources points labels is (x ∷ xs) (e ∷ es) are =
+    (subst (λ ls. IsActor (slice_get ls (x.0 - 1)) e) (sym is) (acts_at app code resources points x.0 e are.0), all_act app code resources points labels is xs es are.1)

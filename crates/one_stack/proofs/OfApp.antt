@@ -1,5 +1,5 @@
 -- The built program of an application in order and a code that fits it.
-use Rattle.std.proofs.Common.{◌≡◌, ℕ, zero, suc, ◌+◌, ◌≤◌, true, List, [], ◌∷◌, length, map, arith, slice_get}
+use Rattle.std.proofs.Common.{◌≡◌, ◌∙◌, ℕ, zero, suc, ◌+◌, ◌≤◌, true, List, [], ◌∷◌, length, map, ap, arith, slice_get}
 use Rattle.std.proofs.lemmas.List.{length-map}
 use Rattle.app_model.specs.declared.app.App.{App}
 use Rattle.app_model.specs.InOrder.{IsInOrder}
@@ -7,10 +7,13 @@ use Rattle.guard_prog.specs.declared.draft.Draft.{Draft}
 use Rattle.guard_prog.specs.Drafts.{program_of}
 use Rattle.guard_prog.specs.WellShaped.{IsWellShaped}
 use Rattle.one_stack.proofs.Formed.{form_at, formed, numbered}
-use Rattle.one_stack.proofs.Shaped.{drafts_lem, well_shaped}
+use Rattle.one_stack.proofs.Nearing.{all_act, all_go}
+use Rattle.one_stack.proofs.Shaped.{drafts_act, drafts_lem, well_shaped}
 use Rattle.one_stack.proofs.Whole.{starting}
-use Rattle.one_stack.specs.BuildExact.{IsExact}
+use Rattle.one_stack.specs.BuildExact.{IsExact, NamesActors, choices_of}
 use Rattle.one_stack.specs.Built.{IsBuiltOf, go_alone, sum_below}
+use Rattle.one_stack.specs.declared.label.Label.{Label}
+use Rattle.one_stack.specs.Labelled.{labels_of}
 use Rattle.one_stack.specs.PlainCode.{plain_code}
 use Rattle.one_stack.specs.TaskForm.{is_task_form, resource_count}
 use Rattle.step_ir.proofs.InOrder.{sound}
@@ -18,6 +21,7 @@ use Rattle.step_ir.proofs.Within.{few_cells}
 use Rattle.step_ir.specs.declared.code.Code.{Code}
 use Rattle.step_ir.specs.declared.code.EntityCode.{EntityCode}
 use Rattle.step_ir.specs.Fits.{Fits, point_count}
+use Rattle.step_ir.specs.OneStackMachine
 use Rattle.step_ir.specs.Points.{cells_of, plain_of, points_of, start_bits}
 use Rattle.step_ir.specs.PointStep.{behaviour_of}
 use Rattle.step_ir.specs.Setting.{setting_of}
@@ -46,6 +50,17 @@ module _ (app : App) (code : Code) (order : IsInOrder app) (fits : Fits app code
   pub draft_is_exact : (draft : Draft) → IsBuiltOf app code draft → (arrivals : ℕ) → IsExact (setting_of app) (behaviour_of code) (start_bits code) arrivals (program_of draft) go_alone
   draft_is_exact draft is arrivals =
       drafts_lem (setting_of app) (sound app order) (plain_code code) (resource_count app) (formed app code order fits form) (numbered app code order fits form) resources_few draft is arrivals
+
+  -- the entity of each label is the one that acts
+  pub draft_acts : (draft : Draft) → IsBuiltOf app code draft → (labels : List Label) → labels ≡ labels_of draft.depth draft.points → NamesActors (setting_of app) (behaviour_of code) (start_bits code) (program_of draft) labels
+  draft_acts draft is labels listed =
+      record {
+        acts =
+            λ pairs s runs events m led.
+            let all = drafts_act (setting_of app) (sound app order) (plain_code code) (resource_count app) (formed app code order fits form) (numbered app code order fits form) resources_few draft is in
+            let same = ap (λ f. OneStackMachine.run (setting_of app) (behaviour_of code) (choices_of f pairs) (OneStackMachine.start (setting_of app) (behaviour_of code) (start_bits code))) (all_go draft.depth draft.points labels listed) in
+            all_act (setting_of app) (plain_code code) (resource_count app) draft.points labels (listed ∙ ap (λ n. labels_of n draft.points) is.depth) pairs events (all.each pairs s runs events m (same ∙ led));
+      }
 
   -- and is well shaped
   pub draft_is_shaped : (draft : Draft) → IsBuiltOf app code draft → IsWellShaped draft

@@ -16,12 +16,12 @@ use Rattle.guard_prog.specs.Drafts.{plain_alternatives, point_of, program_of}
 use Rattle.guard_prog.specs.GuardedRun.{PlainAlternative, Program}
 use Rattle.guard_prog.specs.WellShaped.{IsWellShaped, begins_idle, first_fits, is_idle_control, sizes_fit, starts_fit}
 use Rattle.one_stack.proofs.Apart.{and_true}
-use Rattle.one_stack.proofs.Exact.{IsStarting, start_shaped}
+use Rattle.one_stack.proofs.Exact.{AreActing, IsStarting, start_shaped}
 use Rattle.one_stack.proofs.Fine.{AreGood, IsRoomy, alternatives_good, good_less, point_count, point_fine}
 use Rattle.one_stack.proofs.Slots.{IsValid}
 use Rattle.one_stack.proofs.Tables.{length-concat, length-table, sum-mono, sum-more}
 use Rattle.one_stack.proofs.Passing.{AreStarts, cells_pass, controls_pass, inputs_pass, labels_distinct, labels_within, none_plain, plain_point, starts-append, starts_pass}
-use Rattle.one_stack.proofs.Whole.{apart, build_lem, layout}
+use Rattle.one_stack.proofs.Whole.{acting_lem, apart, build_lem, layout}
 use Rattle.one_stack.specs.BuildExact.{IsExact}
 use Rattle.one_stack.specs.Built.{IsBuilt, built, concat_below, entity_points, first_of, first_state, go_alone, held_of, held_times, kept_at, mark_at, place_of, places, plan_of, points_before, points_of, room_of, starts_of, sum_below, table, view, width_of, widths_of}
 use Rattle.one_stack.specs.PlainCode.{PlainCode, steps_of}
@@ -397,3 +397,7 @@ module _ (app : Setting) (sound : IsSound app) (code : PlainCode) (resources : �
   pub drafts_lem : (draft : Draft) → IsBuilt app code resources draft → (arrivals : ℕ) → IsExact app (steps_of code) code.start arrivals (program_of draft) go_alone
   drafts_lem draft is arrivals =
       subst (λ (p : Program). IsExact app (steps_of code) code.start arrivals p go_alone) (same_program draft is) (build_lem app sound code resources form numbered few arrivals)
+
+  pub drafts_act : (draft : Draft) → IsBuilt app code resources draft → AreActing app code (plan_of app code resources) (program_of draft) go_alone
+  drafts_act draft is =
+      subst (λ (p : Program). AreActing app code (plan_of app code resources) p go_alone) (same_program draft is) (acting_lem app sound code resources form numbered few)

@@ -7,7 +7,7 @@ use Rattle.chk_base.specs.Widths.{limit_of}
 use Rattle.chk_base.specs.declared.word.Width.TheVariants.{W1, W8, W32}
 use Rattle.std.specs.Prelude.{unwrap_or}
 use Rattle.guard_prog.specs.GuardedRun.{PlainAlternative}
-use Rattle.one_stack.proofs.Exact.{IsStarting, is_exact}
+use Rattle.one_stack.proofs.Exact.{AreActing, IsStarting, acting, is_exact}
 use Rattle.one_stack.proofs.Kept.{IsLayout}
 use Rattle.one_stack.proofs.Meeting.{IsProgram}
 use Rattle.one_stack.proofs.Slots.{IsValid, IsApart}
@@ -321,3 +321,7 @@ module _ (app : Setting) (sound : IsSound app) (code : PlainCode) (resources : �
   -- the runs of the built program are the choice lists of the one-stack machine
   pub build_lem : (arrivals : ℕ) → IsExact app (steps_of code) code.start arrivals (built app code resources) go_alone
   build_lem arrivals = is_exact app sound code form (plan_of app code resources) (built app code resources) go_alone program starting arrivals
+
+  -- each label of its runs is of the entity that acts
+  pub acting_lem : AreActing app code (plan_of app code resources) (built app code resources) go_alone
+  acting_lem = acting app sound code form (plan_of app code resources) (built app code resources) go_alone program starting

@@ -1,6 +1,8 @@
 -- The runs of a guarded program are the choice lists of the one-stack machine.
 use Rattle.std.specs.Prelude.{◌≡◌, ℕ, ◌+◌, ◌≤◌, List, [], ◌∷◌, length, Some}
 use Rattle.guard_prog.specs.GuardedRun.{Program, State, start_of, run}
+use Rattle.one_stack.specs.declared.label.Label.{Label}
+use Rattle.one_stack.specs.Labelled.{AreActors, chosen_by}
 use Rattle.step_ir.specs.declared.event.Choice.{Choice}
 use Rattle.step_ir.specs.declared.event.Event.{Event}
 use Rattle.step_ir.specs.EntityStep.{Behaviour}
@@ -39,3 +41,7 @@ pub record IsExact {S G : Type 0} (app : Setting) (beh : Behaviour S G) (globals
   pub sound : (pairs : List (ℕ × ℕ)) (s : State) → run p pairs (start_of p) ≡ Some s → IsMatched app beh globals arrivals (choices_of chosen pairs) s
   pub complete : (choices : List Choice) (events : List Event) (m : Stacked S G) → OneStackMachine.run app beh choices (OneStackMachine.start app beh globals) ≡ Some (events, m) → arrivals_in choices ≤ arrivals → HasRun p chosen choices
   pub unique : (xs ys : List (ℕ × ℕ)) (s t : State) → run p xs (start_of p) ≡ Some s → run p ys (start_of p) ≡ Some t → choices_of chosen xs ≡ choices_of chosen ys → xs ≡ ys
+
+-- in each turn of each run of the program, the entity of the label is the one that acts
+pub record NamesActors {S G : Type 0} (app : Setting) (beh : Behaviour S G) (globals : G) (p : Program) (labels : List Label) : Type 0 where
+  pub acts : (pairs : List (ℕ × ℕ)) (s : State) → run p pairs (start_of p) ≡ Some s → (events : List Event) (m : Stacked S G) → OneStackMachine.run app beh (choices_of (chosen_by labels) pairs) (OneStackMachine.start app beh globals) ≡ Some (events, m) → AreActors labels pairs events

@@ -1,5 +1,5 @@
 -- The labels of the program, and the choices that they stand for.
-use Rattle.std.specs.Prelude.{ℕ, ◌+◌, ◌-◌, ◌%◌, ◌<◌, ◌==◌, max, Bool, false, List, [], ◌∷◌, Option, Some, None, if◌then◌else◌, slice_get}
+use Rattle.std.specs.Prelude.{◌≡◌, ℕ, ◌+◌, ◌-◌, ◌%◌, ◌<◌, ◌==◌, max, Bool, false, List, [], ◌∷◌, Option, Some, None, if◌then◌else◌, slice_get}
 use Rattle.std.specs.List.{list_any}
 use Rattle.chk_base.specs.declared.word.Width.{Width}
 use Rattle.chk_base.specs.Widths.{limit_of}
@@ -8,6 +8,7 @@ use Rattle.one_stack.specs.Built.{table}
 use Rattle.one_stack.specs.declared.label.Label.{Label}
 use Rattle.step_ir.specs.declared.event.Choice.{Choice}
 use Rattle.step_ir.specs.declared.event.Choice.TheVariants.{Go, GoWith, Arrive}
+use Rattle.step_ir.specs.declared.event.Event.{Event}
 
 -- a step goes on, with the word at the input's width where there is an input
 abbrev pub step_with : Option Width → ℕ → Choice
@@ -36,6 +37,18 @@ chosen_by labels l word = chosen (slice_get labels (l - 1)) word
 -- the label takes this word
 abbrev pub TakesWord : List Label → ℕ → ℕ → Type 0
 TakesWord labels l word = IsTaken (slice_get labels (l - 1)) word
+
+-- the label's entity is the one that acts in this event
+abbrev pub IsActor : Option Label → Event → Type 0
+IsActor None event = Unit {0}
+IsActor (Some label) event = label.entity.0 ≡ event.actor.0
+
+-- turn by turn, the entity of the label is the one that acts
+abbrev pub AreActors : List Label → List (ℕ × ℕ) → List Event → Type 0
+AreActors labels [] [] = Unit {0}
+AreActors labels [] (event ∷ events) = ⊥
+AreActors labels (pair ∷ pairs) [] = ⊥
+AreActors labels (pair ∷ pairs) (event ∷ events) = IsActor (slice_get labels (pair.0 - 1)) event × AreActors labels pairs events
 
 -- the greatest label of these alternatives, and 0 without one
 abbrev pub most_in : List Alternative → ℕ

@@ -2,7 +2,7 @@
 ghost use Rattle.std.specs.Prelude.{◌≡◌, ℕ, ◌≤◌, true, IfOk, length};
 ghost use Rattle.app_model.specs.InOrder.{IsInOrder};
 ghost use Rattle.guard_prog.specs.Drafts.{program_of};
-ghost use Rattle.one_stack.specs.BuildExact.{IsExact};
+ghost use Rattle.one_stack.specs.BuildExact.{IsExact, NamesActors};
 ghost use Rattle.one_stack.specs.Built.{IsBuiltOf};
 ghost use Rattle.one_stack.specs.Labelled.{Takes, TakesWord, chosen_by, labels_of, most_of, step_with};
 ghost use Rattle.one_stack.specs.Near.{AreAllNear};
@@ -57,8 +57,9 @@ fn draft_of(alloc: Global, app: &App, code: &Code) -> Result<Draft, AllocError>
     })
 }
 
-/// The guarded program of an application, whose runs are exactly the choice lists of the one-stack machine. It is made for the task form: no
-/// routine, no input, no `Schedule` and no section; so no routine arrives, whatever `arrivals` is.
+/// The guarded program of an application, whose runs are exactly the choice lists of the one-stack machine, and whose labels have the
+/// entities that act. It is made for the task form: no routine, no input, no `Schedule` and no section; so no routine arrives, whatever
+/// `arrivals` is.
 pub fn build(alloc: Global, app: &App, code: &Code, arrivals: u8) -> Result<OneStack, AllocError>
     requires order { IsInOrder app.now }
     requires fits { Fits app.now code.now }
@@ -66,6 +67,7 @@ pub fn build(alloc: Global, app: &App, code: &Code, arrivals: u8) -> Result<OneS
     requires arrivals { arrivals ≤ 15 }
     ensures built { IfOk result (λ o. IsBuiltOf app.now code.now o.program) }
     ensures exact { IfOk result (λ o. IsExact (setting_of app.now) (behaviour_of code.now) (start_bits code.now) arrivals (program_of o.program) (chosen_by o.labels)) }
+    ensures actors { IfOk result (λ o. NamesActors (setting_of app.now) (behaviour_of code.now) (start_bits code.now) (program_of o.program) o.labels) }
     ensures labels { IfOk result (λ o. o.labels ≡ labels_of o.program.depth o.program.points) }
     ensures greatest { IfOk result (λ o. length o.labels ≡ most_of o.program.points) }
     ensures words { IfOk result (λ o. (label word : ℕ) → TakesWord o.labels label word) }

@@ -1,7 +1,8 @@
-// Budgets, faults of the desk, and the certificates that are left, over files and an output in memory.
+// Budgets, faults of the desk, the certificates that are left, and those that are checked, over files and an output in memory.
 use crate::show_tests::has;
 use crate::tests::{
-    AS_BEFORE, EARLIER, FAILS, HOLDS, OIL, Parts, certified_of, left_by, run, text,
+    AS_BEFORE, EARLIER, FAILS, FIRST, GOAL, HOLDS, OIL, Parts, SECOND, SIZES, TITLE, certified_of,
+    check, left_by, result_of, run, text,
 };
 use chk_base::text::Text;
 use std::test::Fail;
@@ -125,4 +126,183 @@ fn each_call_of_the_desk_may_fail(rt: HostRuntime) -> Result<(), Fail> {
         assert!(rt; is_left(call, file, &before, &whole.cert), "{call}");
     }
     Err("more calls than forty")?
+}
+
+// The line of the budget of the certificates that are checked.
+const BUDGET: &str = "budget 10\n";
+
+// A certificate, the number that the program ends with, and what it writes.
+type Checked = (Parts, u8, &'static str);
+
+const CHECKED: [Checked; 12] = [
+    (
+        &[
+            TITLE,
+            BUDGET,
+            SIZES,
+            FIRST,
+            SECOND,
+            GOAL,
+            "0 1 2 3 0\nverdict holds\nend\n",
+        ],
+        0,
+        "oschk check\nlines 1\ngood holds\n",
+    ),
+    (
+        &[
+            TITLE,
+            BUDGET,
+            SIZES,
+            FIRST,
+            SECOND,
+            GOAL,
+            "0 1 3 0\nverdict holds\nend\n",
+        ],
+        8,
+        "oschk check\nlines 1\nbad line 1\n",
+    ),
+    (
+        &[
+            TITLE,
+            BUDGET,
+            SIZES,
+            FIRST,
+            SECOND,
+            GOAL,
+            "0 0\nverdict holds\nend\n",
+        ],
+        8,
+        "oschk check\nlines 1\nbad line 1\n",
+    ),
+    (
+        &[
+            TITLE,
+            BUDGET,
+            SIZES,
+            FIRST,
+            SECOND,
+            GOAL,
+            "0 2 1 3 0\nverdict holds\nend\n",
+        ],
+        8,
+        "oschk check\nlines 1\nbad line 1\n",
+    ),
+    (
+        &[
+            TITLE,
+            BUDGET,
+            SIZES,
+            FIRST,
+            SECOND,
+            GOAL,
+            "0 1 2 3 0\nverdict undecided\nend\n",
+        ],
+        8,
+        "oschk check\nlines 1\nbad verdict\n",
+    ),
+    (
+        &[
+            TITLE,
+            BUDGET,
+            SIZES,
+            FIRST,
+            SECOND,
+            GOAL,
+            "0 1 2 3 0\nverdict fails\nmodel 1 2 0\nend\n",
+        ],
+        8,
+        "oschk check\nlines 1\nbad verdict\n",
+    ),
+    (
+        &[
+            TITLE,
+            BUDGET,
+            SIZES,
+            FIRST,
+            SECOND,
+            GOAL,
+            "0 1 2 3 0\nverdict holds\n",
+        ],
+        3,
+        "refused CERT END at 17:1\n",
+    ),
+    (
+        &[
+            TITLE,
+            BUDGET,
+            SIZES,
+            FIRST,
+            SECOND,
+            GOAL,
+            "0 1 2 9 0\nverdict holds\nend\n",
+        ],
+        3,
+        "refused CERT TOKEN at 15:7\n",
+    ),
+    (
+        &[
+            "Oschk certificate 1\nbounds 1 0\n",
+            BUDGET,
+            SIZES,
+            FIRST,
+            SECOND,
+            GOAL,
+            "0 1 2 3 0\nverdict holds\nend\n",
+        ],
+        3,
+        "refused CERT TOKEN at 1:1\n",
+    ),
+    (
+        &[
+            TITLE,
+            BUDGET,
+            SIZES,
+            "3 0\n",
+            SECOND,
+            GOAL,
+            "0 1 2 3 0\nverdict holds\nend\n",
+        ],
+        3,
+        "refused CERT TOKEN at 6:1\n",
+    ),
+    (
+        &[
+            TITLE,
+            BUDGET,
+            SIZES,
+            FIRST,
+            "2 -1 0\n",
+            GOAL,
+            "0 1 2 3 0\nverdict holds\nend\n",
+        ],
+        3,
+        "refused CERT TOKEN at 7:3\n",
+    ),
+    (
+        &[
+            TITLE,
+            "\0",
+            BUDGET,
+            SIZES,
+            FIRST,
+            SECOND,
+            GOAL,
+            "0 1 2 3 0\nverdict holds\nend\n",
+        ],
+        3,
+        "refused CERT BYTE at 3:1\n",
+    ),
+];
+
+fn checked() -> &'static [Checked] {
+    &CHECKED
+}
+
+#[test]
+fn certificates_are_checked(rt: HostRuntime) -> Result<(), Fail> {
+    for (cert, number, report) in checked() {
+        let ended = result_of(rt.alloc(), &check(cert))?;
+        assert!(rt; ended.number == *number && ended.text.as_bytes() == report.as_bytes());
+    }
+    Ok(())
 }

@@ -1,6 +1,5 @@
 // What `show` prints, and the limits.
-use crate::row_tests::points;
-use crate::tests::{OIL, called_with, result_of, run, show, text};
+use crate::tests::{HEAD, OIL, Parts, TAIL, called_with, result_of, run, show, text};
 use chk_base::text::Text;
 use std::alloc::{AllocError, Global};
 use std::test::Fail;
@@ -25,6 +24,97 @@ fn the_usual_application_is_shown_whole(rt: HostRuntime) -> Result<(), Fail> {
 /// The text has this line.
 pub fn has(text: &[u8], line: &[u8]) -> bool {
     !line.is_empty() && text.windows(line.len()).any(|part| part == line)
+}
+
+// An OIL text, a C text, and the line of its points with what stands beside it.
+type Points = (Parts, Parts, &'static str);
+
+const POINTS: [Points; 7] = [
+    (
+        &[
+            HEAD,
+            "TASK T { PRIORITY = 1; SCHEDULE = FULL; ACTIVATION = 1; AUTOSTART = TRUE { APPMODE = M; }; };\n",
+            TAIL,
+        ],
+        &["uint8_t x = 1;\nuint8_t y;\nTASK(T) {\n  assert(x || y);\n  TerminateTask();\n}\n"],
+        "\npoints 5\ncells ",
+    ),
+    (
+        &[
+            HEAD,
+            "TASK T { PRIORITY = 1; SCHEDULE = FULL; ACTIVATION = 1; AUTOSTART = TRUE { APPMODE = M; }; };\n",
+            TAIL,
+        ],
+        &["uint8_t g;\nTASK(T) {\n  assert(0 && g);\n  TerminateTask();\n}\n"],
+        "\npoints 4\ncells ",
+    ),
+    (
+        &[
+            HEAD,
+            "TASK T { PRIORITY = 1; SCHEDULE = FULL; ACTIVATION = 1; AUTOSTART = TRUE { APPMODE = M; }; };\n",
+            "ISR I { CATEGORY = 2; PRIORITY = 1; };\n",
+            TAIL,
+        ],
+        &[
+            "uint8_t x;\nuint8_t n;\nISR(I) {\n  x = x + 10;\n  n = n + 1;\n}\nTASK(T) {\n  x = x + 1;\n  assert(x == 1 + 10 * n);\n  TerminateTask();\n}\n",
+        ],
+        "\npoints 12\ncells ",
+    ),
+    (
+        &[
+            HEAD,
+            "RESOURCE R { RESOURCEPROPERTY = STANDARD; };\n",
+            "TASK T { PRIORITY = 1; SCHEDULE = FULL; ACTIVATION = 1; AUTOSTART = TRUE { APPMODE = M; }; RESOURCE = R; };\n",
+            "ISR I { CATEGORY = 2; PRIORITY = 1; RESOURCE = R; };\n",
+            TAIL,
+        ],
+        &[
+            "uint8_t x;\nuint8_t n;\nISR(I) {\n  GetResource(R);\n  x = x + 10;\n  n = n + 1;\n  ReleaseResource(R);\n}\nTASK(T) {\n  GetResource(R);\n  x = x + 1;\n  assert(x == 1 + 10 * n);\n  ReleaseResource(R);\n  TerminateTask();\n}\n",
+        ],
+        "\npoints 16\ncells ",
+    ),
+    (
+        &[
+            HEAD,
+            "TASK T { PRIORITY = 1; SCHEDULE = FULL; ACTIVATION = 1; AUTOSTART = FALSE; };\n",
+            "ISR I { CATEGORY = 2; PRIORITY = 1; };\n",
+            "ISR J { CATEGORY = 2; PRIORITY = 2; };\n",
+            TAIL,
+        ],
+        &[
+            "uint8_t a;\nTASK(T) { TerminateTask(); }\nISR(I) {\n  a = 1;\n  a = 0;\n}\nISR(J) {\n  assert(a == 0);\n}\n",
+        ],
+        "\npoints 8\ncells ",
+    ),
+    (
+        &[
+            HEAD,
+            "RESOURCE R { RESOURCEPROPERTY = STANDARD; };\n",
+            "TASK T { PRIORITY = 1; SCHEDULE = FULL; ACTIVATION = 1; AUTOSTART = TRUE { APPMODE = M; }; RESOURCE = R; };\n",
+            "TASK H { PRIORITY = 2; SCHEDULE = FULL; ACTIVATION = 1; AUTOSTART = FALSE; RESOURCE = R; };\n",
+            "ISR I { CATEGORY = 2; PRIORITY = 1; };\n",
+            TAIL,
+        ],
+        &[
+            "uint8_t x;\nTASK(T) {\n  GetResource(R);\n  x = 1;\n  x = 2;\n  ReleaseResource(R);\n  TerminateTask();\n}\nTASK(H) {\n  assert(x != 1);\n  TerminateTask();\n}\nISR(I) {\n  ActivateTask(H);\n}\n",
+        ],
+        "\npoints 12\ncells ",
+    ),
+    (
+        &[
+            HEAD,
+            "TASK T { PRIORITY = 1; SCHEDULE = FULL; ACTIVATION = 1; AUTOSTART = TRUE { APPMODE = M; }; };\n",
+            TAIL,
+        ],
+        &[
+            "TASK(T) {\n  uint8_t p = oschk_input();\n  uint8_t q = oschk_input();\n  int32_t x = p & 7;\n  int32_t y = q & 7;\n  assert((x + y) * (x + y) == x * x + 2 * x * y + y * y);\n  TerminateTask();\n}\n",
+        ],
+        "\npoints 7\ncells ",
+    ),
+];
+
+fn points() -> &'static [Points] {
+    &POINTS
 }
 
 #[test]

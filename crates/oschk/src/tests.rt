@@ -44,17 +44,15 @@ const REPORT_OF_THE_FAILURE: &str =
     "oschk run\nclass BCC1\nbounds 8 0\npoints 5\nverdict fails F1 at 4:3\n1 T write x=1 -> T\n2 T read x=1 -> T\n3 T fail F1 -> stop\nschedule\ngo\ngo\ngo\n";
 
 // A certificate in parts: its title, its bounds and sizes, its two clauses, and what comes before the lines of its log.
-const TITLE: &str = "oschk certificate 1\nbounds 1 0\n";
+pub const TITLE: &str = "oschk certificate 1\nbounds 1 0\n";
 
-const BUDGET: &str = "budget 10\n";
+pub const SIZES: &str = "variables 2\nclauses 2\n";
 
-const SIZES: &str = "variables 2\nclauses 2\n";
+pub const FIRST: &str = "1 0\n";
 
-const FIRST: &str = "1 0\n";
+pub const SECOND: &str = "-1 2 0\n";
 
-const SECOND: &str = "-1 2 0\n";
-
-const GOAL: &str =
+pub const GOAL: &str =
     "goal -1 -2 0\nlabels 1\nlabel 0 idle\ndepth 0 0 1\ndepth 1 0 1\nturn 1 0 1\nlog\n";
 
 /// A good certificate that leaves a run undecided after two lines, as none ends here. It is in the file before each run.
@@ -98,7 +96,7 @@ pub fn show(oil: Parts, c: Parts) -> Case {
     run("show app.oil app.c", oil, c)
 }
 
-fn check(cert: Parts) -> Case {
+pub fn check(cert: Parts) -> Case {
     Case {
         words: "check app.cert",
         oil: &[],
@@ -597,182 +595,6 @@ fn defined_names_comments_and_hooks_set_to_false_are_taken(rt: HostRuntime) -> R
     for (oil, c) in taken() {
         let ended = result_of(rt.alloc(), &run(RUN, oil, c))?;
         assert!(rt; ended.number == 0 && ended.text.as_bytes() == REPORT.as_bytes());
-    }
-    Ok(())
-}
-
-// A certificate, the number that the program ends with, and what it writes.
-type Checked = (Parts, u8, &'static str);
-
-const CHECKED: [Checked; 12] = [
-    (
-        &[
-            TITLE,
-            BUDGET,
-            SIZES,
-            FIRST,
-            SECOND,
-            GOAL,
-            "0 1 2 3 0\nverdict holds\nend\n",
-        ],
-        0,
-        "oschk check\nlines 1\ngood holds\n",
-    ),
-    (
-        &[
-            TITLE,
-            BUDGET,
-            SIZES,
-            FIRST,
-            SECOND,
-            GOAL,
-            "0 1 3 0\nverdict holds\nend\n",
-        ],
-        8,
-        "oschk check\nlines 1\nbad line 1\n",
-    ),
-    (
-        &[
-            TITLE,
-            BUDGET,
-            SIZES,
-            FIRST,
-            SECOND,
-            GOAL,
-            "0 0\nverdict holds\nend\n",
-        ],
-        8,
-        "oschk check\nlines 1\nbad line 1\n",
-    ),
-    (
-        &[
-            TITLE,
-            BUDGET,
-            SIZES,
-            FIRST,
-            SECOND,
-            GOAL,
-            "0 2 1 3 0\nverdict holds\nend\n",
-        ],
-        8,
-        "oschk check\nlines 1\nbad line 1\n",
-    ),
-    (
-        &[
-            TITLE,
-            BUDGET,
-            SIZES,
-            FIRST,
-            SECOND,
-            GOAL,
-            "0 1 2 3 0\nverdict undecided\nend\n",
-        ],
-        8,
-        "oschk check\nlines 1\nbad verdict\n",
-    ),
-    (
-        &[
-            TITLE,
-            BUDGET,
-            SIZES,
-            FIRST,
-            SECOND,
-            GOAL,
-            "0 1 2 3 0\nverdict fails\nmodel 1 2 0\nend\n",
-        ],
-        8,
-        "oschk check\nlines 1\nbad verdict\n",
-    ),
-    (
-        &[
-            TITLE,
-            BUDGET,
-            SIZES,
-            FIRST,
-            SECOND,
-            GOAL,
-            "0 1 2 3 0\nverdict holds\n",
-        ],
-        3,
-        "refused CERT END at 17:1\n",
-    ),
-    (
-        &[
-            TITLE,
-            BUDGET,
-            SIZES,
-            FIRST,
-            SECOND,
-            GOAL,
-            "0 1 2 9 0\nverdict holds\nend\n",
-        ],
-        3,
-        "refused CERT TOKEN at 15:7\n",
-    ),
-    (
-        &[
-            "Oschk certificate 1\nbounds 1 0\n",
-            BUDGET,
-            SIZES,
-            FIRST,
-            SECOND,
-            GOAL,
-            "0 1 2 3 0\nverdict holds\nend\n",
-        ],
-        3,
-        "refused CERT TOKEN at 1:1\n",
-    ),
-    (
-        &[
-            TITLE,
-            BUDGET,
-            SIZES,
-            "3 0\n",
-            SECOND,
-            GOAL,
-            "0 1 2 3 0\nverdict holds\nend\n",
-        ],
-        3,
-        "refused CERT TOKEN at 6:1\n",
-    ),
-    (
-        &[
-            TITLE,
-            BUDGET,
-            SIZES,
-            FIRST,
-            "2 -1 0\n",
-            GOAL,
-            "0 1 2 3 0\nverdict holds\nend\n",
-        ],
-        3,
-        "refused CERT TOKEN at 7:3\n",
-    ),
-    (
-        &[
-            TITLE,
-            "\0",
-            BUDGET,
-            SIZES,
-            FIRST,
-            SECOND,
-            GOAL,
-            "0 1 2 3 0\nverdict holds\nend\n",
-        ],
-        3,
-        "refused CERT BYTE at 3:1\n",
-    ),
-];
-
-fn checked() -> &'static [Checked] {
-    &CHECKED
-}
-
-#[test]
-fn certificates_are_checked(rt: HostRuntime) -> Result<(), Fail> {
-    for (cert, number, report) in checked() {
-        let ended = result_of(rt.alloc(), &check(cert))?;
-        assert!(rt; ended.number == *number && ended.text.as_bytes() == report.as_bytes());
     }
     Ok(())
 }

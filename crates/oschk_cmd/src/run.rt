@@ -6,7 +6,7 @@ ghost use Rattle.step_ir.specs.Fits.{Fits};
 ghost use Rattle.oschk_cmd.specs.Fit.{IsFit};
 ghost use Rattle.oschk_cmd.specs.Runs.{AreUnwritten, IsBounded, IsMakeReply, IsMakeUnwritten, IsRunReply, IsRunReplyOf, IsRunUnwritten, IsTextsReply, IsUnwrittenOf};
 
-use crate::fetch::{Both, LIMIT, fetch_both};
+use crate::fetch::{Both, fetch_both};
 use crate::reply::{Ran, Reply, Unwritten};
 use app_generator::generate::generate;
 use cert_text::front::Bounds;
@@ -108,7 +108,7 @@ pub fn reply_to_run<D: Desk>(
     }
 }
 
-/// What is replied to the words of a run whose texts belong to a number. Texts that are too long for a run are none that were made.
+/// What is replied to the words of a run whose texts belong to a number.
 ///
 /// # Errors
 ///
@@ -126,9 +126,6 @@ pub fn reply_to_make<D: Desk>(
     let Ok(texts) = generate(alloc, make.number, make.arrivals) else {
         return Ok(Reply::OutOfMemory);
     };
-    if texts.oil.as_bytes().len() as u64 > LIMIT || texts.c.as_bytes().len() as u64 > LIMIT {
-        return Ok(Reply::OutOfMemory);
-    }
     let both = Both {
         oil: texts.oil,
         c: texts.c,

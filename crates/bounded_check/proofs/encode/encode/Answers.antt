@@ -19,7 +19,7 @@ returns-clause-depicts c =
     let takes = all_taken stack.program.depth stack.program.points stack.labels c.in_ok-stack.ensures.labels in
     let named = all_named (setting_of c.args.app.now).entities _ stack.program.points stack.labels c.in_ok-stack.ensures.built.points (c.in_ok-stack.ensures.labels ∙ ap (λ n. labels_of n stack.program.points) c.in_ok-stack.ensures.built.depth) in
     depicted (setting_of c.args.app.now) (behaviour_of c.args.code.now) (start_bits c.args.code.now) c.args.arrivals
-    (same.machine_stopped (c.same_traces_of_codes.ensures.no_failures c.args.code.now)) c.prefixes_are_runs.ensures (program_of stack.program) stack.labels c.in_ok-stack.ensures.exact
+    (same.machine_stopped (c.same_traces_of_codes.ensures.no_failures c.args.code.now)) c.prefixes_are_runs.ensures (program_of stack.program) stack.labels c.in_ok-stack.ensures.exact c.in_ok-stack.ensures.actors
     e c.args.turns c.in_ok-encoding.ensures.describes (listed_of e (program_of stack.program) c.args.turns stack.labels c.in_ok-encoding.ensures.describes wide takes) named
 
 pub returns-clause-shape : goal.returns-clause-shape

@@ -1,8 +1,8 @@
 use Rattle.std.proofs.Common.{◌∙◌, ◌≤◌, length, ap, sym, subst}
 use Rattle.guard_prog.specs.declared.draft.Draft.{Draft}
 use Rattle.guard_prog.specs.Drafts.{program_of}
-use Rattle.one_stack.specs.BuildExact.{IsExact}
-use Rattle.one_stack.specs.Labelled.{chosen_by, label_at, most_of}
+use Rattle.one_stack.specs.BuildExact.{IsExact, NamesActors}
+use Rattle.one_stack.specs.Labelled.{chosen_by, label_at, labels_of, most_of}
 use Rattle.one_stack.proofs.Nearing.{all_go, all_near, all_take, few_points}
 use Rattle.one_stack.proofs.Tabling.{length-table}
 use Rattle.step_ir.specs.Points.{start_bits}
@@ -34,3 +34,8 @@ returns-clause-greatest c =
 
 pub returns-clause-words : goal.returns-clause-words
 returns-clause-words c = all_take c.in_ok-draft.draft.depth c.items.result.now c.in_ok-labels.labels c.in_ok-labels.ensures
+
+pub returns-clause-actors : goal.returns-clause-actors
+returns-clause-actors c =
+    subst (λ (d : Draft). NamesActors (setting_of c.args.app.now) (behaviour_of c.args.code.now) (start_bits c.args.code.now) (program_of d) c.in_ok-labels.labels) (sym c.in-Ok.ensures.taken)
+    (c.built_is_exact.ensures.actors _ _ c.requires.order c.requires.fits c.requires.form _ c.in_ok-draft.ensures c.in_ok-labels.labels (c.in_ok-labels.ensures ∙ ap (labels_of c.in_ok-draft.draft.depth) c.items.ensures))
