@@ -45,15 +45,6 @@ def sum_of(reads):
     return "v0=" + "+".join(f"v{i}" for i in range(reads)) + ";\n"
 
 
-def wide_sum(reads):
-    left, parts = reads, []
-    while left:
-        part = min(63, left)
-        parts.append("(" + "+".join(f"v{i}" for i in range(part)) + ")")
-        left -= part
-    return "v0=" + "+".join(parts) + ";\n"
-
-
 def nested(reads):
     return "v0=" + "a0[" * reads + "0" + "]" * reads + ";\n"
 
@@ -67,7 +58,7 @@ def main(folder):
         "operators": (cells(4), ("a0[0]=1" + "+1" * 58 + ";\n") * POINTS),
         "sums": (cells(2, 64), sum_of(64) * 31 + sum_of(30)),
         "signed_sums": (cells(2) + signed(64), sum_of(64) * 31 + sum_of(30)),
-        "wide_sum": (cells(0) + signed(64), wide_sum(POINTS - 1)),
+        "guarded_sums": (cells(3, 1), ("a0[0]=(1" + "+1" * 60 + ")&&v0;\n") * (POINTS // 2)),
         "indices": (cells(3, 1), nested(63) * 31 + nested(61)),
         "else_ifs": (cells(3, 63), "if(v0==0){}\n" + "else if(v1==1){}\n" * 1022),
         "ifs": (cells(3, 63), "if(v0==0){}else{}\n" * 1023),

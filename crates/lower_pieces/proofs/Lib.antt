@@ -5,3 +5,4 @@ pub mod Expansion
 pub mod Joining
 pub mod Summed
 pub mod Walked
+pub mod Told

@@ -1,7 +1,7 @@
 -- One more of a list that is gone through.
 use Rattle.std.proofs.Common.{◌≡◌, ℕ, ◌+◌, ◌<◌, List, ◌∷◌, ◌++◌, length, drop, get_or, min, Option, append_assoc, refl, ap, ap₂, sym, subst, ◌∙◌, ◌≤◌, arith, [], zero, suc}
-use Rattle.std.specs.Prelude.{map}
-use Rattle.std.proofs.lemmas.List.{drop_more, drop_all}
+use Rattle.std.specs.Prelude.{map, remove, slice_index_or}
+use Rattle.std.proofs.lemmas.List.{drop_more}
 use Rattle.chk_base.specs.declared.expr.Expr.{Expr}
 use Rattle.chk_base.specs.declared.place.Place.{Place}
 use Rattle.step_ir.specs.Points.{PlainAction, PlainPoint, PlainTarget, Read}
@@ -55,10 +55,6 @@ sets_end cell (p ∷ ps) [] (suc i) h = sets_none cell (drop i ps)
 sets_end cell (p ∷ ps) (t ∷ ts) zero h = absurd (omega arith)
 sets_end cell (p ∷ ps) (t ∷ ts) (suc i) h = sets_end cell ps ts i (omega arith)
 
--- a point that does this
-abbrev completing : Place → List (Term × ℕ) → List (Term × ℕ) → PlainAction → List PlainPoint
-completing place traps nexts action = record { place = place; action = action; traps = traps; nexts = nexts } ∷ []
-
 -- one more item that is a read, whose point is there
 pub thing_read : (number : ℕ → ℕ) (place : Place) (action : PlainAction) (nexts traps left : List (Term × ℕ)) (at : ℕ) (g : Option Term) (t : PlainTarget) (n : ℕ) (is : List JoinedItem) (points whole new : List PlainPoint)
     → whole ≡ points ++ thing_joined number place action nexts traps at (Reads g t n ∷ is)
@@ -70,12 +66,11 @@ thing_read number place action nexts traps left at g t n is points whole new e f
     ∙ sym (append_assoc points (record { place = place; action = Read t n; traps = traps; nexts = entry_joined number (at + 1) is } ∷ []) (thing_joined number place action nexts (behind_joined g traps) (at + 1) is))
     ∙ ap₂ (λ ps xs. ps ++ thing_joined number place action nexts xs (at + 1) is) (sym f) (sym h)
 
--- at the end of the items a thing is completed
-pub thing_done : (number : ℕ → ℕ) (place : Place) (action action' : PlainAction) (nexts traps : List (Term × ℕ)) (at : ℕ) (is : List Item) (i : ℕ) (points whole new : List PlainPoint)
-    → length is ≤ i → action' ≡ action
-    → whole ≡ points ++ thing_joined number place action nexts traps at (items_of (drop i is))
-    → new ≡ points ++ (record { place = place; action = action'; traps = traps; nexts = nexts } ∷ [])
-    → new ≡ whole
-thing_done number place action action' nexts traps at is i points whole new h same e f =
-    f ∙ (ap (λ a. points ++ completing place traps nexts a) same
-    ∙ sym (e ∙ ap (λ xs. points ++ thing_joined number place action nexts traps at (items_of xs)) (drop_all i is h)))
+-- the first of a list, and what is left
+pub first_left : (is : List Item) (x : Item) → 0 < length is → x ≡ slice_index_or is 0 x → items_of is ≡ item_of x ∷ items_of (remove is 0)
+first_left [] x some e = absurd (omega arith)
+first_left (i ∷ is) x some e = ap (λ j. item_of j ∷ items_of is) (sym e)
+
+pub fewer_left : (is : List Item) → 0 < length is → length (remove is 0) < length is
+fewer_left [] some = absurd (omega arith)
+fewer_left (i ∷ is) some = omega arith

@@ -1,5 +1,5 @@
 -- The items of a thing with each guard as one term.
-use Rattle.std.specs.Prelude.{ℕ, List, map, Option, option_map}
+use Rattle.std.specs.Prelude.{ℕ, Bool, List, [], ◌∷◌, map, Option, option_map, if◌then◌else◌}
 use Rattle.chk_base.specs.Term.{Term, term_of}
 use Rattle.step_ir.specs.Points.{PlainTarget, target_of}
 use Rattle.lower_law.specs.Items.{Site, Check, guarded}
@@ -17,6 +17,12 @@ pub data JoinedItem : Type 0 where
 abbrev pub joined : plain.Item → JoinedItem
 joined (Site g t n) = Reads (guard_term g) t n
 joined (Check g t f) = Tests (guarded g t) f
+
+-- all of these items, or the reads alone
+abbrev pub told : Bool → List JoinedItem → List JoinedItem
+told b [] = []
+told b (Reads g t n ∷ is) = Reads g t n ∷ told b is
+told b (Tests t f ∷ is) = if b then Tests t f ∷ told b is else told b is
 
 -- an item as plain data
 abbrev pub item_of : Item → JoinedItem

@@ -11,7 +11,7 @@ ghost use Rattle.lower_pieces.specs.Firsts.{first_in, first_thing, entry_of};
 ghost use Rattle.lower_pieces.specs.Trees.{statement_of};
 ghost use Rattle.lower_pieces.specs.Within.{AllBelow, IfBelow};
 
-use crate::asking::ask_thing;
+use crate::asking::ask_reads;
 use crate::copies::copy;
 use crate::steps::{copy_nexts, entry, push_nexts};
 use crate::tree::StatementTree;
@@ -38,8 +38,8 @@ pub fn first_thing(b: &[StatementTree]) -> Option<&StatementTree>
     None
 }
 
-/// Where a thing at a position begins.
-#[tactic(auto, using(crate::proofs::Counted::reads_all, crate::proofs::Joining::entry_is))]
+/// Where a thing at a position begins, which its reads alone say.
+#[tactic(auto, using(crate::proofs::Counted::reads_all, crate::proofs::Joining::entry_is, crate::proofs::Told::entry_told, crate::proofs::Told::reads_told))]
 pub fn thing_entry(
     alloc: Global,
     first: u16,
@@ -53,7 +53,7 @@ pub fn thing_entry(
     requires points { at + sites_all (questions (statement_of s.now)) < 2 ^ 16 }
     ensures { IfOk result (λ n. map item_of n ≡ entry (exchanged first) at (items_all base temp (questions (statement_of s.now)))) }
 {
-    let asked = ask_thing(alloc, base, temp, s)?;
+    let asked = ask_reads(alloc, base, temp, s)?;
     entry(alloc, first, at, &asked.evaluation.items)
 }
 

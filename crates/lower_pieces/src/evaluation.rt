@@ -5,7 +5,7 @@ ghost use Rattle.step_ir.specs.Points.{target_of};
 ghost use Rattle.lower_law.specs.Items.{sites, term, items, guarded, extend_term, convert_term, binary_term, binary_checks, unary_term, unary_checks, division_checks, index_check};
 ghost use Rattle.lower_law.specs.Items as plain;
 ghost use Rattle.lower_pieces.specs.Guards.{guard_of, guard_term};
-ghost use Rattle.lower_pieces.specs.Joined.{Reads, Tests, joined, items_of};
+ghost use Rattle.lower_pieces.specs.Joined.{Reads, Tests, joined, items_of, told};
 ghost use Rattle.lower_pieces.specs.Trees.{tree_of};
 ghost use Rattle.lower_pieces.specs.Within.{LocalsBelow};
 
@@ -31,11 +31,12 @@ pub enum Item {
     },
 }
 
-/// The items so far, and the next cell for a value that is read.
+/// The items so far, the next cell for a value that is read, and whether tests are told: where they aren't, the items are reads alone.
 #[derive(Drop)]
 pub struct Evaluation {
     pub next: u16,
     pub items: Vec<Item>,
+    pub tells: bool,
 }
 
 impl Evaluation {
@@ -49,6 +50,7 @@ impl Evaluation {
     ) -> Result<(), AllocError>
         ensures items { OnOk result (items_of self.new.items.items ≡ items_of self.old.items.items ++ joined (plain.Check (guard_of guard.now) (term_of test) failure) ∷ []) }
         ensures next { self.new.next ≡ self.old.next }
+        ensures tells { self.new.tells ≡ self.old.tells }
     {
         let test = guard_test(alloc, guard, test)?;
         self.items.push(Item::Test { test, failure })?;
@@ -61,6 +63,7 @@ impl Evaluation {
         requires { self.old.next + 1 < 2 ^ 16 }
         ensures items { OnOk result (items_of self.new.items.items ≡ items_of self.old.items.items ++ joined (plain.Site (guard_of guard.now) (target_of target) self.old.next) ∷ []) }
         ensures next { OnOk result (self.new.next ≡ self.old.next + 1) }
+        ensures tells { self.new.tells ≡ self.old.tells }
         ensures term { IfOk result (λ e. term_of e ≡ Cell self.old.next false) }
     {
         let guard = joined_guard(alloc, guard)?;
@@ -89,6 +92,7 @@ impl Evaluation {
     ) -> Result<(), AllocError>
         ensures items { OnOk result (items_of self.new.items.items ≡ items_of self.old.items.items ++ map joined (division_checks (guard_of guard.now) signed (term_of a.now) (term_of b.now))) }
         ensures next { self.new.next ≡ self.old.next }
+        ensures tells { self.new.tells ≡ self.old.tells }
     {
         let zero = bin(alloc, BinOp::Eq, copy(alloc, b)?, Expr::Const(0))?;
         self.test(alloc, guard, zero, 4)?;
@@ -111,6 +115,7 @@ impl Evaluation {
     ) -> Result<(), AllocError>
         ensures items { OnOk result (items_of self.new.items.items ≡ items_of self.old.items.items ++ joined (plain.Check (guard_of guard.now) (Bin op (term_of a.now) (term_of b.now)) 3) ∷ []) }
         ensures next { self.new.next ≡ self.old.next }
+        ensures tells { self.new.tells ≡ self.old.tells }
     {
         let test = bin(alloc, op, copy(alloc, a)?, copy(alloc, b)?)?;
         self.test(alloc, guard, test, 3)
@@ -129,6 +134,7 @@ impl Evaluation {
     ) -> Result<(), AllocError>
         ensures items { OnOk result (items_of self.new.items.items ≡ items_of self.old.items.items ++ map joined (binary_checks (guard_of guard.now) op signed (term_of a.now) (term_of b.now))) }
         ensures next { self.new.next ≡ self.old.next }
+        ensures tells { self.new.tells ≡ self.old.tells }
     {
         match op {
             BinaryOperator::Multiply if signed => {
@@ -161,6 +167,7 @@ impl Evaluation {
     ) -> Result<(), AllocError>
         ensures items { OnOk result (items_of self.new.items.items ≡ items_of self.old.items.items ++ map joined (unary_checks (guard_of guard.now) op signed (term_of a.now))) }
         ensures next { self.new.next ≡ self.old.next }
+        ensures tells { self.new.tells ≡ self.old.tells }
     {
         match op {
             UnaryOperator::Minus if signed => {
@@ -171,7 +178,7 @@ impl Evaluation {
     }
 
     // The test of an index, and the read of its element.
-    #[tactic(auto, using(std::proofs::Common::append_assoc))]
+    #[tactic(auto, using(crate::proofs::Told::told_append, std::proofs::Common::append_assoc))]
     fn read_element(
         &mut self,
         alloc: Global,
@@ -181,8 +188,9 @@ impl Evaluation {
         index: Expr,
     ) -> Result<Expr, AllocError>
         requires { self.old.next + 1 < 2 ^ 16 }
-        ensures items { OnOk result (items_of self.new.items.items ≡ items_of self.old.items.items ++ (joined (index_check (guard_of guard.now) len (term_of index)) ∷ joined (plain.Site (guard_of guard.now) (record { base = cell; len = len; index = Some (term_of index) }) self.old.next) ∷ [])) }
+        ensures items { OnOk result (items_of self.new.items.items ≡ items_of self.old.items.items ++ told self.old.tells (joined (index_check (guard_of guard.now) len (term_of index)) ∷ joined (plain.Site (guard_of guard.now) (record { base = cell; len = len; index = Some (term_of index) }) self.old.next) ∷ [])) }
         ensures next { OnOk result (self.new.next ≡ self.old.next + 1) }
+        ensures tells { self.new.tells ≡ self.old.tells }
         ensures term { IfOk result (λ e. term_of e ≡ Cell self.old.next false) }
     {
         self.test_index(alloc, guard, len, &index)?;
@@ -197,7 +205,8 @@ impl Evaluation {
         )
     }
 
-    /// The test of an index.
+    /// The test of an index, where tests are told.
+    #[tactic(auto, using(crate::proofs::Told::told_when, crate::proofs::Told::index_untold, crate::proofs::Appended::append_none))]
     pub fn test_index(
         &mut self,
         alloc: Global,
@@ -205,9 +214,13 @@ impl Evaluation {
         len: u8,
         index: &Expr,
     ) -> Result<(), AllocError>
-        ensures items { OnOk result (items_of self.new.items.items ≡ items_of self.old.items.items ++ joined (index_check (guard_of guard.now) len (term_of index.now)) ∷ []) }
+        ensures items { OnOk result (items_of self.new.items.items ≡ items_of self.old.items.items ++ told self.old.tells (joined (index_check (guard_of guard.now) len (term_of index.now)) ∷ [])) }
         ensures next { self.new.next ≡ self.old.next }
+        ensures tells { self.new.tells ≡ self.old.tells }
     {
+        if !self.tells {
+            return Ok(());
+        }
         let test = bin(
             alloc,
             BinOp::LeU,
@@ -217,7 +230,8 @@ impl Evaluation {
         self.test(alloc, guard, test, 6)
     }
 
-    // The tests of an operator, and its value.
+    // The tests of an operator, where tests are told, and its value.
+    #[tactic(auto, using(crate::proofs::Told::told_when, crate::proofs::Told::binary_untold, crate::proofs::Appended::append_none))]
     fn operate(
         &mut self,
         alloc: Global,
@@ -227,15 +241,19 @@ impl Evaluation {
         a: Expr,
         b: Expr,
     ) -> Result<Expr, AllocError>
-        ensures items { OnOk result (items_of self.new.items.items ≡ items_of self.old.items.items ++ map joined (binary_checks (guard_of guard.now) op signed (term_of a) (term_of b))) }
+        ensures items { OnOk result (items_of self.new.items.items ≡ items_of self.old.items.items ++ told self.old.tells (map joined (binary_checks (guard_of guard.now) op signed (term_of a) (term_of b)))) }
         ensures next { self.new.next ≡ self.old.next }
+        ensures tells { self.new.tells ≡ self.old.tells }
         ensures term { IfOk result (λ t. term_of t ≡ binary_term op signed (term_of a) (term_of b)) }
     {
-        self.test_binary(alloc, guard, op, signed, &a, &b)?;
+        if self.tells {
+            self.test_binary(alloc, guard, op, signed, &a, &b)?;
+        }
         binary(alloc, op, signed, a, b)
     }
 
-    // The test of an operator with one operand, and its value.
+    // The test of an operator with one operand, where tests are told, and its value.
+    #[tactic(auto, using(crate::proofs::Told::told_when, crate::proofs::Told::unary_untold, crate::proofs::Appended::append_none))]
     fn operate_one(
         &mut self,
         alloc: Global,
@@ -244,16 +262,19 @@ impl Evaluation {
         signed: bool,
         a: Expr,
     ) -> Result<Expr, AllocError>
-        ensures items { OnOk result (items_of self.new.items.items ≡ items_of self.old.items.items ++ map joined (unary_checks (guard_of guard.now) op signed (term_of a))) }
+        ensures items { OnOk result (items_of self.new.items.items ≡ items_of self.old.items.items ++ told self.old.tells (map joined (unary_checks (guard_of guard.now) op signed (term_of a)))) }
         ensures next { self.new.next ≡ self.old.next }
+        ensures tells { self.new.tells ≡ self.old.tells }
         ensures term { IfOk result (λ t. term_of t ≡ unary_term op (term_of a)) }
     {
-        self.test_unary(alloc, guard, op, signed, &a)?;
+        if self.tells {
+            self.test_unary(alloc, guard, op, signed, &a)?;
+        }
         unary(alloc, op, a)
     }
 
     /// The term of an expression, after its items, where the guard holds. `base` is the first cell of the locals.
-    #[tactic(auto, using(crate::proofs::Appended::joined_append, std::proofs::Common::append_assoc))]
+    #[tactic(auto, using(crate::proofs::Told::told_joined, std::proofs::Common::append_assoc))]
     pub fn expression(
         &mut self,
         alloc: Global,
@@ -263,8 +284,9 @@ impl Evaluation {
     ) -> Result<Expr, AllocError>
         requires room { self.old.next + sites (tree_of e.now) < 2 ^ 16 }
         requires cells { LocalsBelow (2 ^ 16 - base) (tree_of e.now) }
-        ensures items { OnOk result (items_of self.new.items.items ≡ items_of self.old.items.items ++ map joined (items base (guard_of guard.now) self.old.next (tree_of e.now))) }
+        ensures items { OnOk result (items_of self.new.items.items ≡ items_of self.old.items.items ++ told self.old.tells (map joined (items base (guard_of guard.now) self.old.next (tree_of e.now)))) }
         ensures next { OnOk result (self.new.next ≡ self.old.next + sites (tree_of e.now)) }
+        ensures tells { self.new.tells ≡ self.old.tells }
         ensures term { IfOk result (λ t. term_of t ≡ term base self.old.next (tree_of e.now)) }
     {
         match e {

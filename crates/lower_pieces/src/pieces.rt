@@ -287,7 +287,7 @@ impl Plan<'_> {
             &mut points,
             self.first,
             at,
-            &asked.evaluation.items,
+            asked.evaluation.items,
             place_of(s),
             action,
             next,

@@ -1,13 +1,14 @@
 // The points of one thing: one for each of its reads, and one that completes it.
-ghost use Rattle.std.specs.Prelude.{◌≡◌, ◌+◌, ◌++◌, ◌∷◌, [], ◌<◌, ◌≤◌, ◌^◌, IfOk, OnOk, map, option_map};
+ghost use Rattle.std.specs.Prelude.{◌≡◌, ◌+◌, ◌++◌, ◌∷◌, [], ◌<◌, ◌≤◌, ◌^◌, IfOk, OnOk, length, map, option_map};
 ghost use Rattle.chk_base.specs.Term.{term_of, Const};
 ghost use Rattle.step_ir.specs.Points.{plain_of, plain_action, target_of, item_of, Read};
 ghost use Rattle.lower_law.specs.Exact.{exchanged};
 ghost use Rattle.lower_law.specs.Lowered.{always};
 ghost use Rattle.lower_pieces.specs.Joined.{items_of};
+ghost use Rattle.lower_pieces.specs.Joined as one;
 ghost use Rattle.lower_pieces.specs.Steps.{behind_joined, reads_in, cut_joined, entry_joined, thing_joined};
 
-use crate::copies::{copy, copy_target};
+use crate::copies::copy;
 use crate::evaluation::Item;
 use chk_base::expr::Expr;
 use chk_base::place::Place;
@@ -112,14 +113,13 @@ fn read(
     traps: &mut Traps,
     place: Place,
     guard: &Option<Expr>,
-    target: &Target,
+    target: Target,
     into: u16,
     next: Nexts,
 ) -> Result<(), AllocError>
-    ensures points { OnOk result (map plain_of points.new.items ≡ map plain_of points.old.items ++ (record { place = place; action = Read (target_of target.now) into; traps = map item_of traps.old; nexts = map item_of next } ∷ [])) }
+    ensures points { OnOk result (map plain_of points.new.items ≡ map plain_of points.old.items ++ (record { place = place; action = Read (target_of target) into; traps = map item_of traps.old; nexts = map item_of next } ∷ [])) }
     ensures traps { OnOk result (map item_of traps.new ≡ behind_joined (option_map term_of guard.now) (map item_of traps.old)) }
 {
-    let target = copy_target(alloc, target)?;
     let traps = tested(alloc, guard, traps)?;
     points.push(Point {
         place,
@@ -149,34 +149,45 @@ fn complete(
     Ok(())
 }
 
+// The first of the items that are left, which is taken away.
+#[tactic(auto, using(crate::proofs::Walked::first_left, crate::proofs::Walked::fewer_left))]
+fn next_of(items: &mut Vec<Item>) -> Item
+    requires { 0 < length items.old.items }
+    ensures items { items_of items.old.items ≡ one.item_of result ∷ items_of items.new.items }
+    ensures fewer { length items.new.items < length items.old.items }
+{
+    items.remove(0)
+}
+
 /// The points of a thing with these items at this position, behind those that there are.
-#[tactic(auto, using(crate::proofs::Walked::items_more, crate::proofs::Walked::thing_read, std::proofs::Common::append_assoc))]
+#[tactic(auto, using(crate::proofs::Walked::thing_read, std::proofs::Common::append_assoc))]
 pub fn thing(
     alloc: Global,
     points: &mut Vec<Point>,
     first: u16,
     at: u16,
-    items: &[Item],
+    items: Vec<Item>,
     place: Place,
     action: Action,
     next: Nexts,
 ) -> Result<(), AllocError>
-    requires { at + reads_in (items_of items.now) < 2 ^ 16 }
-    ensures { OnOk result (map plain_of points.new.items ≡ map plain_of points.old.items ++ thing_joined (exchanged first) place (plain_action action) (map item_of next) [] at (items_of items.now)) }
+    requires { at + reads_in (items_of items.items) < 2 ^ 16 }
+    ensures { OnOk result (map plain_of points.new.items ≡ map plain_of points.old.items ++ thing_joined (exchanged first) place (plain_action action) (map item_of next) [] at (items_of items.items)) }
 {
     let mut traps = Traps::new(alloc);
     let mut at = at;
-    for (i, item) in items.iter().enumerate() {
-        match item {
-            Item::Test { test, failure } => traps.push((copy(alloc, test)?, *failure))?,
+    let mut left = items;
+    while !left.is_empty() {
+        match next_of(&mut left) {
+            Item::Test { test, failure } => traps.push((test, failure))?,
             Item::Read {
                 guard,
                 target,
                 into,
             } => {
                 at += 1;
-                let rest = entry(alloc, first, at, &items[i + 1..])?;
-                read(alloc, points, &mut traps, place, guard, target, *into, rest)?;
+                let rest = entry(alloc, first, at, &left)?;
+                read(alloc, points, &mut traps, place, &guard, target, into, rest)?;
             }
         }
     }
