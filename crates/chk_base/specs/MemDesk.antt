@@ -5,10 +5,12 @@ use Rattle.chk_base.specs.Causes.{risen}
 use Rattle.chk_base.specs.Desk.{DeskState, DeskFault, Files}
 use Rattle.chk_base.specs.Faults.{count_of, last_of}
 
--- what a desk in memory means: its files, the file begun last, how many calls there were, the numbers of the calls that are to fail, and the faults
+-- what a desk in memory means: its files, the file begun last, the bound on the bytes that an append takes where one was given, how many calls there were, the
+-- numbers of the calls that are to fail, and the faults
 pub record MemDeskState : Type 0 where
   pub files : Files
   pub current : Option (List ℕ)
+  pub most : Option ℕ
   pub calls : ℕ
   pub to_fail : List ℕ
   pub faults : Option (ℕ × DeskFault)
@@ -37,3 +39,4 @@ AppendFails desk = IsToFail desk ⊎ (desk.current ≡ None)
 pub record CountsCall (before after : MemDeskState) : Type 0 where
   pub calls : after.calls ≡ risen before.calls
   pub to_fail : after.to_fail ≡ before.to_fail
+  pub most : after.most ≡ before.most

@@ -1,11 +1,13 @@
 -- A sink in memory.
-use Rattle.std.specs.Prelude.{◌≡◌, ◌⊎◌, ℕ, ◌-◌, ◌<◌, List, length, Contains, Some}
+use Rattle.std.specs.Prelude.{◌≡◌, ◌⊎◌, ℕ, ◌-◌, ◌<◌, List, Option, length, Contains, Some}
 use Rattle.chk_base.specs.Causes.{risen}
 use Rattle.chk_base.specs.Sink.{SinkState}
 
--- what a sink in memory means: how many bytes it takes in all, the bytes written, the bytes that it lends, how many calls there were, the numbers of the calls that are to fail, and how many have failed
+-- what a sink in memory means: how many bytes it takes in all, the bound on the bytes that a write takes where one was given, the bytes written, the
+-- bytes that it lends, how many calls there were, the numbers of the calls that are to fail, and how many have failed
 pub record MemSinkState : Type 0 where
   pub room : ℕ
+  pub most : Option ℕ
   pub written : List ℕ
   pub text : List ℕ
   pub calls : ℕ

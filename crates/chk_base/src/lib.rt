@@ -1,6 +1,7 @@
 // What every crate stands on: words, cells and expressions, texts with places, and the outside.
 #![tactic(auto)]
 
+mod bound;
 pub mod cells;
 pub mod desk;
 pub mod expr;

@@ -1,11 +1,13 @@
 // A desk in memory.
-ghost use Rattle.std.specs.Prelude.{◌≡◌, ◌↔◌, ◌∷◌, ◌++◌, [], None, Some, false, length, if◌then◌else◌, IsTrue, IfOk, OnOk, OnErr, IsErrOf, option_copied};
+ghost use Rattle.std.specs.Prelude.{◌≡◌, ◌↔◌, ◌∷◌, ◌++◌, ◌≤◌, [], None, Some, false, length, if◌then◌else◌, IsTrue, IfOk, OnOk, OnErr, IsErrOf, option_copied};
 ghost use Rattle.std.specs.FinMap.{empty, get};
 ghost use Rattle.chk_base.specs.Causes.{risen, is_fault_of};
+ghost use Rattle.chk_base.specs.Pieces.{at_most};
 ghost use Rattle.chk_base.specs.Desk.{Fetches, Begins, Appends, FetchAnswer, is_fetch_failed, is_put_failed, with_file};
 ghost use Rattle.chk_base.specs.Faults.{count_of};
 ghost use Rattle.chk_base.specs.MemDesk.{desk_state, HasCurrent, IsToFail, FetchFails, AppendFails, CountsCall};
 
+use crate::bound::Bound;
 use crate::desk::{Desk, FetchFault, PutFault};
 use crate::faults::Faults;
 use crate::file_list::FileList;
@@ -14,12 +16,14 @@ use std::alloc::{AllocError, Global};
 use std::marker::Model;
 
 /// A desk in memory. A call fails where its number was given; a fetch also where there is no file of that name, and an append also where
-/// no file was begun. The calls of the trait are numbered from 1; after 2^64 - 1 of them each further one has that number.
+/// no file was begun. An append takes the whole piece, or as much of it as a bound lets it. The calls of the trait are numbered from 1; after
+/// 2^64 - 1 of them each further one has that number.
 #[derive(Drop)]
 pub struct MemDesk {
     alloc: Global,
     files: FileList,
     current: Option<Text>,
+    most: Bound,
     calls: u64,
     to_fail: Vec<u64>,
     faults: Faults,
@@ -34,7 +38,7 @@ impl Model for MemDesk {
 
     ghost coded = { Prim.hlevel (codes, files_code) };
 
-    ghost view = { λ a. record { files = a.files; current = a.current; calls = a.calls; to_fail = a.to_fail.items; faults = a.faults } };
+    ghost view = { λ a. record { files = a.files; current = a.current; most = a.most; calls = a.calls; to_fail = a.to_fail.items; faults = a.faults } };
 
     ghost invariant = { λ a. HasCurrent a.files a.current };
 }
@@ -53,12 +57,13 @@ fn read(alloc: Global, file: &Text, limit: u64) -> Result<Text, FetchFault>
 impl MemDesk {
     /// A desk without files.
     pub fn new(alloc: Global) -> MemDesk
-        ensures { result ≡ record { files = empty; current = None; calls = 0; to_fail = []; faults = None } }
+        ensures { result ≡ record { files = empty; current = None; most = None; calls = 0; to_fail = []; faults = None } }
     {
         MemDesk {
             alloc,
             files: FileList::new(alloc),
             current: None,
+            most: Bound::none(),
             calls: 0,
             to_fail: Vec::new(alloc),
             faults: Faults::new(),
@@ -83,6 +88,14 @@ impl MemDesk {
     {
         self.to_fail.push(call)?;
         Ok(())
+    }
+
+    /// Lets each append from now on take at most so many bytes.
+    pub fn take_at_most(&mut self, n: u32)
+        requires { 1 ≤ n }
+        ensures { self.new ≡ record self.old { most = Some n } }
+    {
+        self.most = Bound::of(n);
     }
 
     /// The bytes of a file.
@@ -149,13 +162,14 @@ impl Desk for MemDesk {
         ensures count { count_of self.new.faults ≡ (if is_fault_of is_put_failed result then risen (count_of self.old.faults) else count_of self.old.faults) }
         ensures calls { CountsCall self.old self.new }
         ensures there { HasCurrent self.old.files self.old.current }
-        ensures whole { IfOk result (λ n. n ≡ length piece.now) }
+        ensures taken { IfOk result (λ n. n ≡ at_most self.old.most (length piece.now)) }
     {
         let is_to_fail = self.is_to_fail();
         match &self.current {
             Some(current) if !is_to_fail => {
-                self.files.append(current, piece)?;
-                Ok(piece.len())
+                let taken = self.most.taken(piece.len());
+                self.files.append(current, &piece[..taken])?;
+                Ok(taken)
             }
             current => {
                 self.faults.add_append(current.as_ref());
