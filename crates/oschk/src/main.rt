@@ -1,21 +1,6 @@
 // The program: the top call over the files of the system and the standard output.
 #![tactic(auto)]
 
-#[cfg(test)]
-mod cert_tests;
-#[cfg(test)]
-mod replay_tests;
-#[cfg(test)]
-mod row_tests;
-#[cfg(test)]
-mod show_tests;
-#[cfg(test)]
-mod solver_tests;
-#[cfg(test)]
-mod tests;
-#[cfg(test)]
-mod turn_tests;
-
 use chk_base::file_desk::FileDesk;
 use chk_base::out_sink::OutSink;
 use chk_base::text::{Text, Words};
