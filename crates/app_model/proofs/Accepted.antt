@@ -5,8 +5,8 @@ use Rattle.std.proofs.lemmas.List.{length-drop}
 use Rattle.std.proofs.lemmas.List.Elements.{All-cons, All-nil}
 use Rattle.chk_base.specs.declared.place.Place.{Place}
 use Rattle.chk_base.specs.declared.text.Name.{Name}
-use Rattle.oil_text.specs.declared.tree.Item.{Item}
-use Rattle.oil_text.specs.declared.tree.OilTree.{OilTree}
+use Rattle.oil_tree.specs.declared.tree.Item.{Item}
+use Rattle.oil_tree.specs.declared.tree.OilTree.{OilTree}
 use Rattle.oil_rules.specs.declared.first.Fault.{Fault}
 use Rattle.oil_rules.specs.declared.known.Known.{Known}
 use Rattle.oil_rules.specs.declared.group.Group.TheVariants as groups

@@ -8,11 +8,11 @@ use Rattle.std.proofs.lemmas.List.{length-map, length-append}
 use Rattle.std.proofs.lemmas.List.Elements.{All-head, All-tail, All-weaker}
 use Rattle.chk_base.specs.declared.place.Place.{Place}
 use Rattle.chk_base.specs.declared.text.Name.{Name}
-use Rattle.oil_text.specs.declared.tree.Attribute.{Attribute}
-use Rattle.oil_text.specs.declared.tree.Value.{Value}
-use Rattle.oil_text.specs.declared.tree.Item.{Item}
-use Rattle.oil_text.specs.declared.tree.Item.TheVariants as items
-use Rattle.oil_text.specs.Listed.{listed}
+use Rattle.oil_tree.specs.declared.tree.Attribute.{Attribute}
+use Rattle.oil_tree.specs.declared.tree.Value.{Value}
+use Rattle.oil_tree.specs.declared.tree.Item.{Item}
+use Rattle.oil_tree.specs.declared.tree.Item.TheVariants as items
+use Rattle.oil_tree.specs.Listed.{listed}
 use Rattle.oil_rules.specs.declared.kind.Kind.{Kind}
 use Rattle.oil_rules.specs.declared.kind.Kind.TheVariants as kinds
 use Rattle.oil_rules.specs.declared.role.Role.{Role}

@@ -8,7 +8,7 @@ use Rattle.std.proofs.lemmas.List.Folds.{list_any-append, list_any_at}
 use Rattle.std.proofs.lemmas.Slice.Eq.{bytes_eq-Decides}
 use Rattle.chk_base.specs.declared.text.Name.{Name}
 use Rattle.oil_rules.specs.Names.{has_name, repeats}
-use Rattle.app_model.specs.InOrder.{AreDistinct}
+use Rattle.application.specs.InOrder.{AreDistinct}
 
 -- 1 for the name itself
 abbrev pub one_if : Bool → ℕ

@@ -1,4 +1,3 @@
-pub mod Greatest
 pub mod Steps
 pub mod Accepted
 pub mod Bounded

@@ -7,11 +7,11 @@ use Rattle.std.proofs.lemmas.Bool.{false≢true}
 use Rattle.std.proofs.lemmas.List.{map-append, length-map, length-append, append-nil}
 use Rattle.std.proofs.lemmas.List.Elements.{All-cons, All-nil, All-head, All-tail, All-map, All-weaker, All-append, All-push}
 use Rattle.chk_base.specs.declared.text.Name.{Name}
-use Rattle.oil_text.specs.declared.tree.Attribute.{Attribute}
-use Rattle.oil_text.specs.declared.tree.Item.{Item}
-use Rattle.oil_text.specs.declared.tree.Item.TheVariants as items
-use Rattle.oil_text.specs.declared.tree.OilTree.{OilTree}
-use Rattle.oil_text.specs.Listed.{listed}
+use Rattle.oil_tree.specs.declared.tree.Attribute.{Attribute}
+use Rattle.oil_tree.specs.declared.tree.Item.{Item}
+use Rattle.oil_tree.specs.declared.tree.Item.TheVariants as items
+use Rattle.oil_tree.specs.declared.tree.OilTree.{OilTree}
+use Rattle.oil_tree.specs.Listed.{listed}
 use Rattle.oil_rules.specs.declared.kind.Kind.{Kind}
 use Rattle.oil_rules.specs.declared.kind.Kind.TheVariants as kinds
 use Rattle.oil_rules.specs.declared.known.Known.{Known}
@@ -20,12 +20,12 @@ use Rattle.oil_rules.specs.Kinds.{kind_of, is_task, is_routine, is_resource_kind
 use Rattle.oil_rules.specs.Known.{known_of}
 use Rattle.oil_rules.specs.Objects.{is_resource, is_in, name_in, names_in, texts_in}
 use Rattle.oil_rules.specs.Rules.{faults, internal_of}
-use Rattle.app_model.specs.declared.app.App.{App}
-use Rattle.app_model.specs.declared.app.Resource.{Resource}
-use Rattle.app_model.specs.declared.app.Routine.{Routine}
-use Rattle.app_model.specs.declared.app.Task.{Task}
-use Rattle.app_model.specs.Levels.{greatest, levels_of, is_number, has_number, internal_among, run_level_among, ceiling_among, class_of}
-use Rattle.app_model.specs.InOrder.{IsResource, IsTaskInOrder, IsRoutineInOrder, AreCeilings, AreDistinct, names_of, IsInOrder}
+use Rattle.application.specs.declared.app.App.{App}
+use Rattle.application.specs.declared.app.Resource.{Resource}
+use Rattle.application.specs.declared.app.Routine.{Routine}
+use Rattle.application.specs.declared.app.Task.{Task}
+use Rattle.application.specs.Levels.{greatest, levels_of, is_number, has_number, internal_among, run_level_among, ceiling_among, class_of}
+use Rattle.application.specs.InOrder.{IsResource, IsTaskInOrder, IsRoutineInOrder, AreCeilings, AreDistinct, names_of, IsInOrder}
 use Rattle.app_model.specs.Application.{resource_number, names_standard, reference, with_number, declares, internal, task_of, routine_of, resource_of, task_in, routine_in, resource_in, leveled, ceiled, chosen_mode, application}
 use Rattle.app_model.specs.Bounds.{HasTaskBounds, HasRoutineBounds, IsBoundedTask, IsBoundedRoutine}
 use Rattle.app_model.proofs.Accepted.{IsAccepted, accepted}

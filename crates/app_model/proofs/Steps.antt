@@ -1,16 +1,16 @@
 -- What lists are after one more step.
-use Rattle.std.proofs.Common.{◌≡◌, ℕ, zero, suc, ◌+◌, ◌<◌, List, [], ◌∷◌, ◌++◌, length, take, drop, get_or, set, map, refl, ap, sym, subst, ◌∙◌, arith, add-one, ◌≤◌, Bool, true, false, not, cond, nat_lt, position, Option, Some, None}
+use Rattle.std.proofs.Common.{◌≡◌, ℕ, suc, ◌+◌, ◌<◌, List, [], ◌∷◌, ◌++◌, length, take, get_or, map, refl, ap, sym, ◌∙◌, arith, ◌≤◌, Bool, true, false, not, cond, nat_lt, position, Some, None}
 use Rattle.std.specs.List.{flat_map, position_or_len}
 use Rattle.std.proofs.lemmas.Bool.Decides.{nat_tests}
-use Rattle.oil_text.specs.declared.tree.Item.{Item}
+use Rattle.oil_tree.specs.declared.tree.Item.{Item}
 use Rattle.std.proofs.lemmas.List.{take_more, append-nil, append_assoc, map-append}
 use Rattle.std.proofs.lemmas.List.Concat.{flat_map-append}
-use Rattle.app_model.specs.declared.app.Resource.{Resource}
-use Rattle.app_model.specs.declared.app.Routine.{Routine}
-use Rattle.app_model.specs.declared.app.Task.{Task}
-use Rattle.app_model.specs.Levels.{ceiling_among}
+use Rattle.application.specs.declared.app.Resource.{Resource}
+use Rattle.application.specs.declared.app.Routine.{Routine}
+use Rattle.application.specs.declared.app.Task.{Task}
+use Rattle.application.specs.Levels.{ceiling_among}
 use Rattle.app_model.specs.Application.{ceiled, resource_in}
-use Rattle.app_model.specs.RunLevels.{with_run_levels}
+use Rattle.application.specs.RunLevels.{with_run_levels}
 
 -- one more thing's list
 pub flat_map_step : {X Y : Type 0} (g : X → List Y) (xs : List X) (i : ℕ) (d : X) → i < length xs → flat_map g (take (i + 1) xs) ≡ flat_map g (take i xs) ++ g (get_or xs i d)
@@ -42,21 +42,6 @@ ceiled_append tasks routines n (x ∷ xs) ys =
 pub with_all_run_levels : (f : Task → ℕ) (ts : List Task) → with_run_levels (map f ts) ts ≡ map (λ (t : Task). record t { run_level = f t }) ts
 with_all_run_levels f [] = refl
 with_all_run_levels f (t ∷ ts) = ap (λ us. record t { run_level = f t } ∷ us) (with_all_run_levels f ts)
-
-length-with_run_levels : (ls : List ℕ) (ts : List Task) → length (with_run_levels ls ts) ≡ length ts
-length-with_run_levels [] ts = refl
-length-with_run_levels (l ∷ ls) [] = refl
-length-with_run_levels (l ∷ ls) (t ∷ ts) = ap (λ k. suc k) (length-with_run_levels ls ts)
-
--- one more run level
-pub with_run_levels_more : (ls : List ℕ) (ts : List Task) (i : ℕ) (l : ℕ) (d : Task) → i < length ls → i < length ts → set (with_run_levels (take i ls) ts) i (record (get_or (with_run_levels (take i ls) ts) i d) { run_level = get_or ls i l }) ≡ with_run_levels (take (i + 1) ls) ts
-with_run_levels_more [] ts i l d within inside = absurd (omega arith)
-with_run_levels_more (m ∷ ls) [] i l d within inside = absurd (omega arith)
-with_run_levels_more (m ∷ ls) (t ∷ ts) zero l d within inside = refl
-with_run_levels_more (m ∷ ls) (t ∷ ts) (suc i) l d within inside =
-    ap (λ us. record t { run_level = m } ∷ us)
-    (with_run_levels_more ls ts i l d (omega arith) (omega arith) ∙ ap (λ k. with_run_levels (take k ls) ts) (add-one i))
-    ∙ ap (λ k. with_run_levels (take k (m ∷ ls)) (t ∷ ts)) (sym (add-one (suc i)))
 
 -- resources when one more item has come
 pub resources_step : (tasks : List Task) (routines : List Routine) (xs : List Item) (i : ℕ) (d : Item) (old new : List Resource) → i < length xs → old ≡ ceiled tasks routines 0 (flat_map resource_in (take i xs)) → new ≡ old ++ ceiled tasks routines (length old) (resource_in d) → d ≡ get_or xs i d → new ≡ ceiled tasks routines 0 (flat_map resource_in (take (i + 1) xs))
@@ -91,10 +76,3 @@ no_position p xs none = by (nat_lt (position_or_len p xs) (length xs)) refl
         let low = position_low p xs in
         let high : length xs ≤ position_or_len p xs = grind (arith, nat_tests) in
         omega arith
-
--- the same, for a task that was read and written
-pub set_step : (ls : List ℕ) (ts now : List Task) (i l : ℕ) (e : Task) → now ≡ with_run_levels (take i ls) ts → e ≡ get_or now i e → i < length ls → i < length ts → set now i (record e { run_level = get_or ls i l }) ≡ with_run_levels (take (i + 1) ls) ts
-set_step ls ts now i l e now_is e_is within inside =
-    ap (λ (u : Task). set now i (record u { run_level = get_or ls i l })) e_is
-    ∙ (ap (λ us. set us i (record (get_or us i e) { run_level = get_or ls i l })) now_is
-    ∙ with_run_levels_more ls ts i l e within inside)

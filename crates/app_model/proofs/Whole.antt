@@ -1,18 +1,18 @@
 -- The application, put together from its fields.
 use Rattle.std.proofs.Common.{◌≡◌, ℕ, ◌≤◌, Bool, not, List, [], ◌++◌, length, All, Option, refl, sym, ap, subst, ◌∙◌, arith}
 use Rattle.std.specs.List.{flat_map}
-use Rattle.oil_text.specs.declared.tree.Item.{Item}
-use Rattle.oil_text.specs.declared.tree.OilTree.{OilTree}
+use Rattle.oil_tree.specs.declared.tree.Item.{Item}
+use Rattle.oil_tree.specs.declared.tree.OilTree.{OilTree}
 use Rattle.oil_rules.specs.declared.known.Known.{Known}
 use Rattle.oil_rules.specs.Known.{known_of}
 use Rattle.oil_rules.specs.Rules.{faults}
-use Rattle.app_model.specs.declared.app.App.{App}
-use Rattle.app_model.specs.declared.app.Class.{Class}
-use Rattle.app_model.specs.declared.app.Note.{Note}
-use Rattle.app_model.specs.declared.app.Resource.{Resource}
-use Rattle.app_model.specs.declared.app.Routine.{Routine}
-use Rattle.app_model.specs.declared.app.Task.{Task}
-use Rattle.app_model.specs.Levels.{class_of}
+use Rattle.application.specs.declared.app.App.{App}
+use Rattle.application.specs.declared.app.Class.{Class}
+use Rattle.application.specs.declared.app.Note.{Note}
+use Rattle.application.specs.declared.app.Resource.{Resource}
+use Rattle.application.specs.declared.app.Routine.{Routine}
+use Rattle.application.specs.declared.app.Task.{Task}
+use Rattle.application.specs.Levels.{class_of}
 use Rattle.app_model.specs.Application.{task_in, routine_in, resource_in, leveled, ceiled, chosen_mode, head_notes, item_notes, application}
 use Rattle.app_model.specs.Bounds.{IsBoundedTask, IsBoundedRoutine}
 use Rattle.app_model.proofs.Accepted.{accepted}

@@ -1,6 +1,6 @@
 -- What is answered for a tree.
 use Rattle.std.specs.Prelude.{ℕ, List, Option}
-use Rattle.oil_text.specs.declared.tree.OilTree.{OilTree}
+use Rattle.oil_tree.specs.declared.tree.OilTree.{OilTree}
 use Rattle.oil_rules.specs.First.{IsFirst}
 use Rattle.oil_rules.specs.Rules.{faults}
 use Rattle.app_model.specs.declared.build.AppFault.{AppFault}

@@ -4,11 +4,11 @@ use Rattle.std.specs.List.{list_any, flat_map, position_or_len}
 use Rattle.std.specs.Option.{option_map, option_map_or}
 use Rattle.std.specs.Str.{bytes_eq}
 use Rattle.chk_base.specs.declared.place.Place.{Place}
-use Rattle.oil_text.specs.declared.tree.Attribute.{Attribute}
-use Rattle.oil_text.specs.declared.tree.Item.{Item}
-use Rattle.oil_text.specs.declared.tree.Item.TheVariants as items
-use Rattle.oil_text.specs.declared.tree.OilTree.{OilTree}
-use Rattle.oil_text.specs.Listed.{listed}
+use Rattle.oil_tree.specs.declared.tree.Attribute.{Attribute}
+use Rattle.oil_tree.specs.declared.tree.Item.{Item}
+use Rattle.oil_tree.specs.declared.tree.Item.TheVariants as items
+use Rattle.oil_tree.specs.declared.tree.OilTree.{OilTree}
+use Rattle.oil_tree.specs.Listed.{listed}
 use Rattle.oil_rules.specs.declared.kind.Kind.{Kind}
 use Rattle.oil_rules.specs.declared.kind.Kind.TheVariants as kinds
 use Rattle.oil_rules.specs.declared.role.Role.{Role}
@@ -21,12 +21,12 @@ use Rattle.oil_rules.specs.Names.{has_name}
 use Rattle.oil_rules.specs.Objects.{role_in, has_set, is_resource}
 use Rattle.oil_rules.specs.Known.{known_of}
 use Rattle.oil_rules.specs.Rules.{names_resource, internal_of, starts, is_mode_attribute, is_passed_over}
-use Rattle.app_model.specs.declared.app.App.{App}
-use Rattle.app_model.specs.declared.app.Note.{Note}
-use Rattle.app_model.specs.declared.app.Resource.{Resource}
-use Rattle.app_model.specs.declared.app.Routine.{Routine}
-use Rattle.app_model.specs.declared.app.Task.{Task}
-use Rattle.app_model.specs.Levels.{task_level, routine_level, has_number, run_level_among, ceiling_among, class_of}
+use Rattle.application.specs.declared.app.App.{App}
+use Rattle.application.specs.declared.app.Note.{Note}
+use Rattle.application.specs.declared.app.Resource.{Resource}
+use Rattle.application.specs.declared.app.Routine.{Routine}
+use Rattle.application.specs.declared.app.Task.{Task}
+use Rattle.application.specs.Levels.{task_level, routine_level, has_number, run_level_among, ceiling_among, class_of}
 
 -- the number that the first attribute of this role sets, and 0 without one
 abbrev pub number_set : Kind → Role → List Attribute → ℕ

@@ -1,9 +1,9 @@
 -- The numbers of tasks and routines that break no rule.
 use Rattle.std.specs.Prelude.{◌≡◌, ℕ, ◌≤◌, true, List}
-use Rattle.oil_text.specs.declared.tree.Attribute.{Attribute}
-use Rattle.oil_text.specs.declared.tree.Item.{Item}
-use Rattle.oil_text.specs.declared.tree.Item.TheVariants as items
-use Rattle.oil_text.specs.Listed.{listed}
+use Rattle.oil_tree.specs.declared.tree.Attribute.{Attribute}
+use Rattle.oil_tree.specs.declared.tree.Item.{Item}
+use Rattle.oil_tree.specs.declared.tree.Item.TheVariants as items
+use Rattle.oil_tree.specs.Listed.{listed}
 use Rattle.oil_rules.specs.declared.kind.Kind.TheVariants as kinds
 use Rattle.oil_rules.specs.declared.role.Role.TheVariants as roles
 use Rattle.oil_rules.specs.Kinds.{kind_of, is_task, is_routine}

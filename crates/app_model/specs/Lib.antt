@@ -1,6 +1,6 @@
-pub mod Levels
-pub mod InOrder
-pub mod RunLevels
+pub use Rattle.application.specs.Levels
+pub use Rattle.application.specs.InOrder
+pub use Rattle.application.specs.RunLevels
 pub mod Application
 pub mod Bounds
 pub mod Answers

@@ -4,20 +4,20 @@ ghost use Rattle.std.specs.Option.{option_copied};
 ghost use Rattle.oil_rules.specs.Known.{known_of};
 ghost use Rattle.oil_rules.specs.Rules.{faults};
 ghost use Rattle.app_model.specs.Application.{application};
-ghost use Rattle.app_model.specs.InOrder.{IsInOrder};
+ghost use Rattle.application.specs.InOrder.{IsInOrder};
 ghost use Rattle.app_model.specs.Answers.{IsRefusal};
 
-use crate::app::App;
 use crate::declared::chosen_mode;
-use crate::levels::class_of;
 use crate::notes::notes_of;
 use crate::objects::{resources_of, routines_of, set_run_levels, tasks_of};
+use application::app::App;
+use application::levels::class_of;
 use chk_base::place::Place;
 use chk_base::text::Text;
 use oil_rules::first::Fault;
 use oil_rules::known::{Known, known_of};
 use oil_rules::rules::first_fault;
-use oil_text::tree::OilTree;
+use oil_tree::tree::OilTree;
 use std::alloc::{AllocError, Global};
 
 /// Why there is no application: `Rule` has the number, 1 to 24, and the place of the first rule that is broken, which is that at the least

@@ -2,13 +2,13 @@
 ghost use Rattle.std.specs.Prelude.{◌≡◌, ◌≤◌, IfOk, None, Some, OnOk, [], ◌∷◌, length, min, find};
 ghost use Rattle.std.specs.Option.{option_copied};
 ghost use Rattle.std.specs.List.{list_any};
-ghost use Rattle.oil_text.specs.Listed.{listed};
+ghost use Rattle.oil_tree.specs.Listed.{listed};
 ghost use Rattle.oil_rules.specs.Roles.{is_role};
 ghost use Rattle.oil_rules.specs.Objects.{role_in};
 ghost use Rattle.app_model.specs.Application.{number_set, names_mode, starts_in, resource_number, names_standard, reference, with_number, declares, internal, chosen_mode};
 
-use crate::app::Numbers;
-use crate::levels::has_number;
+use application::app::Numbers;
+use application::levels::has_number;
 use chk_base::text::Text;
 use oil_rules::attribute::{is_mode_attribute, names_resource, starts};
 use oil_rules::group::role_in;
@@ -17,7 +17,7 @@ use oil_rules::known::Known;
 use oil_rules::object::internal_of;
 use oil_rules::role::Role;
 use oil_rules::value::capped_number;
-use oil_text::tree::Attribute;
+use oil_tree::tree::Attribute;
 use std::alloc::{AllocError, Global};
 
 fn first_of_role(kind: Kind, role: Role, attributes: &[Attribute]) -> Option<&Attribute>

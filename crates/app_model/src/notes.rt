@@ -1,17 +1,17 @@
 // What is passed over in an OIL text.
 ghost use Rattle.std.specs.Prelude.{◌≡◌, IfOk, OnOk, [], ◌∷◌, ◌++◌, filter, not, nat_lt, codes, if◌then◌else◌};
 ghost use Rattle.std.specs.List.{flat_map};
-ghost use Rattle.oil_text.specs.Listed.{listed};
+ghost use Rattle.oil_tree.specs.Listed.{listed};
 ghost use Rattle.app_model.specs.Application.{note_if, is_counter, has_attributes, attribute_notes, object_notes, item_notes, include_notes, head_notes};
 
-use crate::app::{Note, Notes};
+use application::app::{Note, Notes};
 use chk_base::place::Place;
 use oil_rules::group::role_in;
 use oil_rules::kind::{Kind, kind_of};
 use oil_rules::object::is_passed_over;
 use oil_rules::role::Role;
 use oil_rules::value::is_word;
-use oil_text::tree::{Attribute, Item, OilTree};
+use oil_tree::tree::{Attribute, Item, OilTree};
 use std::alloc::{AllocError, Global};
 
 fn note_if(notes: &mut Notes, noted: bool, number: u8, place: Place) -> Result<(), AllocError>

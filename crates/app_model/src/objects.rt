@@ -1,23 +1,23 @@
 // Tasks, routines and resources, one by one and in order.
 ghost use Rattle.std.specs.Prelude.{◌≡◌, ◌≤◌, IfOk, OnOk, None, Some, All, [], ◌∷◌, length, map, codes, true, ◌++◌};
 ghost use Rattle.std.specs.List.{flat_map};
-ghost use Rattle.oil_text.specs.Listed.{listed};
-ghost use Rattle.oil_text.specs.declared.tree.Item.TheVariants.{Object};
+ghost use Rattle.oil_tree.specs.Listed.{listed};
+ghost use Rattle.oil_tree.specs.declared.tree.Item.TheVariants.{Object};
 ghost use Rattle.oil_rules.specs.Kinds.{kind_of, is_task, is_routine};
 ghost use Rattle.oil_rules.specs.Objects.{is_resource};
-ghost use Rattle.app_model.specs.Levels.{run_level_among};
+ghost use Rattle.application.specs.Levels.{run_level_among};
 ghost use Rattle.app_model.specs.Application.{task_of, routine_of, resource_of, task_in, routine_in, resource_in, leveled, ceiled};
 ghost use Rattle.app_model.specs.Bounds.{HasTaskBounds, HasRoutineBounds, IsBoundedTask, IsBoundedRoutine};
 
-use crate::app::{Numbers, Resource, Resources, Routine, Routines, Task, Tasks};
 use crate::declared::{declares, internal, is_started, number_set};
-use crate::levels::{ceiling_among, run_level_among};
+use application::app::{Numbers, Resource, Resources, Routine, Routines, Task, Tasks};
+use application::levels::{ceiling_among, run_level_among};
 use chk_base::text::Text;
 use oil_rules::group::{has_set, is_resource};
 use oil_rules::kind::{Kind, kind_of};
 use oil_rules::known::Known;
 use oil_rules::role::Role;
-use oil_text::tree::{Attribute, Item};
+use oil_tree::tree::{Attribute, Item};
 use std::alloc::{AllocError, Global};
 
 #[tactic(auto, unfolding(crate::specs::Application::task_of))]

@@ -14,5 +14,3 @@ pub mod operators;
 pub mod select;
 mod shift;
 mod signed;
-#[cfg(test)]
-mod tests;

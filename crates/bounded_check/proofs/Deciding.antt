@@ -1,7 +1,7 @@
 -- What an answer of the search says of the schedules of an application.
 use Rattle.std.proofs.Common.{◌≡◌, ℕ, ◌≤◌, Bool, true, false, ◌&&◌, List, [], ◌∷◌, ◌++◌, length, Option, Some, None, Ok, refl, sym, ap, subst, ◌∙◌, arith}
 use Rattle.std.proofs.lemmas.Bool.{and_parts}
-use Rattle.app_model.specs.declared.app.App.{App}
+use Rattle.application.specs.declared.app.App.{App}
 use Rattle.bit_circuit.specs.Extension.{IsModel, formula}
 use Rattle.bounded_check.specs.declared.decide.Verdict.{Verdict}
 use Rattle.bounded_check.specs.declared.decide.Verdict.TheVariants as verdict
@@ -33,7 +33,8 @@ use Rattle.step_ir.specs.SchedulerState as scheduler
 use Rattle.step_ir.specs.SchedulerStep
 use Rattle.step_ir.specs.Setting.{Setting, setting_of}
 use Rattle.step_ir.specs.TraceEquality.{HaveSameTraces}
-use Rattle.turn_law.specs.Description.{PlainEncoding, read}
+use Rattle.turn_law.specs.Description.{read}
+use Rattle.turn_encoding.specs.Encodings.{PlainEncoding}
 
 -- ---- the formula and its goal
 both : (v : Values) (e : PlainEncoding) → are_true v (with_goal e) ≡ (are_true v e.formula.clauses && (is_clause_true v e.goal && true))

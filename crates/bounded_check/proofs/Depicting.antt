@@ -24,12 +24,13 @@ use Rattle.step_ir.specs.OneStackMachine
 use Rattle.step_ir.specs.OneStackMachine.{Stacked}
 use Rattle.step_ir.specs.PermittedSchedule.{fails}
 use Rattle.step_ir.specs.Setting.{Setting}
-use Rattle.turn_law.specs.Description.{Describes, PlainEncoding, read, row_of, turns_read}
+use Rattle.turn_law.specs.Description.{Describes, read, row_of, turns_read}
+use Rattle.turn_encoding.specs.Encodings.{PlainEncoding}
 use Rattle.turn_law.specs.Padded.{trimmed}
 use Rattle.turn_law.specs.Symbol.{first_true, row_true, trues}
 use Rattle.turn_law.specs.Sight.{Offer}
 use Rattle.turn_law.specs.Unrolled.{offers_from, offers_here}
-use Rattle.turn_unroll.specs.Grids.{AreWide}
+use Rattle.turn_encoding.specs.Grids.{AreWide}
 use Rattle.turn_unroll.specs.Offers.{greatest_of}
 
 -- ---- the greatest label

@@ -14,7 +14,8 @@ use Rattle.step_ir.specs.OneStackMachine
 use Rattle.step_ir.specs.OneStackMachine.{Stacked}
 use Rattle.step_ir.specs.PermittedSchedule.{arrivals_in, fails}
 use Rattle.step_ir.specs.Setting.{Setting}
-use Rattle.turn_law.specs.Description.{PlainEncoding, AreRowsWithin, read, row_of}
+use Rattle.turn_law.specs.Description.{AreRowsWithin, read, row_of}
+use Rattle.turn_encoding.specs.Encodings.{PlainEncoding}
 use Rattle.turn_law.specs.Symbol.{first_true, trues, row_true}
 
 -- each label is one of the list, whose first item is label 1, and takes its word

@@ -1,7 +1,7 @@
 -- What verdicts say: of a formula with its goal, and of the schedules of an application.
 use Rattle.std.specs.Prelude.{◌≡◌, ℕ, ◌≤◌, Bool, true, false, List, [], ◌∷◌, ◌++◌, length, Some}
-use Rattle.app_model.specs.declared.app.App.{App}
-use Rattle.app_model.specs.InOrder.{IsInOrder}
+use Rattle.application.specs.declared.app.App.{App}
+use Rattle.application.specs.InOrder.{IsInOrder}
 use Rattle.bounded_check.specs.declared.decide.Verdict.{Verdict}
 use Rattle.bounded_check.specs.declared.decide.Verdict.TheVariants.{Holds, Fails, Undecided}
 use Rattle.bounded_check.specs.Depicts.{Depicts, choices_read}
@@ -21,7 +21,7 @@ use Rattle.step_ir.specs.Points.{start_bits}
 use Rattle.step_ir.specs.PointStep.{behaviour_of}
 use Rattle.step_ir.specs.SchedulerStep.{start}
 use Rattle.step_ir.specs.Setting.{setting_of}
-use Rattle.turn_law.specs.Description.{PlainEncoding}
+use Rattle.turn_encoding.specs.Encodings.{PlainEncoding}
 
 -- the formula's clauses, and the goal after them
 abbrev pub with_goal : PlainEncoding → List (List Lit)

@@ -9,7 +9,7 @@ ghost use Rattle.clause_solver.specs.Answer.{EndsAs, IsAnswer, IsLog};
 ghost use Rattle.one_stack.specs.BuildExact.{choices_of};
 ghost use Rattle.one_stack.specs.Labelled.{chosen_by};
 ghost use Rattle.proof_check.specs.Answers.{accepts, after};
-ghost use Rattle.turn_unroll.specs.Encodings.{encoding_of};
+ghost use Rattle.turn_encoding.specs.Encodings.{encoding_of};
 ghost use Rattle.turn_unroll.specs.Runs.{pairs_of};
 
 use crate::encode::Encoded;
@@ -24,7 +24,7 @@ use one_stack::build::{OneStack, choice_of};
 use proof_check::checker::{Checker, Step};
 use std::alloc::{AllocError, Global};
 use step_ir::event::Choices;
-use step_ir::law::same_traces_of_codes;
+use trace_law::law::same_traces_of_codes;
 use turn_unroll::encoding::Encoding;
 use turn_unroll::run::{Run, run_of};
 

@@ -1,21 +1,20 @@
 // The formula of an application's runs.
 ghost use Rattle.std.specs.Prelude.{◌≡◌, ◌≤◌, true, IfOk, length};
-ghost use Rattle.app_model.specs.InOrder.{IsInOrder};
+ghost use Rattle.application.specs.InOrder.{IsInOrder};
 ghost use Rattle.bounded_check.specs.Depicts.{Depicts};
 ghost use Rattle.one_stack.specs.TaskForm.{is_task_form};
 ghost use Rattle.step_ir.specs.Fits.{Fits};
 ghost use Rattle.step_ir.specs.Points.{start_bits};
 ghost use Rattle.step_ir.specs.PointStep.{behaviour_of};
 ghost use Rattle.step_ir.specs.Setting.{setting_of};
-ghost use Rattle.turn_unroll.specs.Encodings.{encoding_of};
-ghost use Rattle.turn_unroll.specs.Unrolls.{HasShape};
+ghost use Rattle.turn_encoding.specs.Encodings.{encoding_of, HasShape};
 
-use app_model::app::App;
+use application::app::App;
 use guard_prog::law::prefixes_are_runs;
 use one_stack::build::{OneStack, build};
 use std::alloc::{AllocError, Global};
 use step_ir::code::Code;
-use step_ir::law::same_traces_of_codes;
+use trace_law::law::same_traces_of_codes;
 use turn_unroll::encoding::Encoding;
 use turn_unroll::unroll::unroll;
 

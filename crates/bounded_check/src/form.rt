@@ -4,7 +4,7 @@ ghost use Rattle.std.specs.List.{list_all};
 ghost use Rattle.one_stack.specs.TaskForm.{is_form_action, is_form_entity, is_form_point, is_form_service, is_task_form};
 ghost use Rattle.step_ir.specs.Points.{plain_action};
 
-use app_model::app::App;
+use application::app::App;
 use step_ir::code::{Action, Code, EntityCode, Point};
 use step_ir::event::Service;
 

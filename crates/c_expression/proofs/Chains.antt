@@ -11,9 +11,9 @@ use Rattle.c_grammar.specs.Next.{lookahead, classes}
 use Rattle.c_grammar.specs.Factored.{Part, TheLevel, joined}
 use Rattle.c_grammar.specs.Trees.{written_tree}
 use Rattle.c_grammar.specs.Written.{one_of, operators}
-use Rattle.c_expression.specs.declared.expression.Expression.{Expression}
-use Rattle.c_expression.specs.declared.expression.Expression.TheVariants as e
-use Rattle.c_expression.specs.declared.expression.BinaryOperator.{BinaryOperator}
+use Rattle.c_unit.specs.declared.expression.Expression.{Expression}
+use Rattle.c_unit.specs.declared.expression.Expression.TheVariants as e
+use Rattle.c_unit.specs.declared.expression.BinaryOperator.{BinaryOperator}
 use Rattle.c_expression.specs.declared.stop.Stop.{Stop}
 use Rattle.c_expression.specs.declared.stop.Stop.TheVariants as stops
 use Rattle.c_expression.specs.Expressions.{level_of, chain_of, linked, joined_of}
@@ -51,12 +51,19 @@ starts k lt empty start = Lists.starts (more k) (low k lt) (link k) empty start
 got_more : (k : ℕ) (ts r r2 : List Token) (o t : Tree Token) → reads (one_of (operators k)) ts ≡ Got o r → reads (Rule (TheLevel k)) r ≡ Got t r2 → reads (more k) ts ≡ Got (Pair o t) r2
 got_more k ts r r2 o t h g = ap (λ a. and_then a (λ x s. and_then (reads (Rule (TheLevel k)) s) (λ y u. Got (Pair x y) u))) h ∙ ap (λ a. and_then a (λ y u. Got (Pair o y) u)) g
 
-pub goes_on : (k : ℕ) → k < 10 → (empty : Expression) (start ts : List Token) (left : Expression) (place : Place) (op : BinaryOperator) (r : List Token) (right : Expression) (r2 : List Token) → begins class_at (classes (operators k)) ts ≡ true → reads (one_of (operators k)) ts ≡ Got (tree_at (one_of (operators k)) ts) r → place_at (written_at (one_of (operators k)) ts) ≡ place → binary_of (written_at (one_of (operators k)) ts) ≡ op → reads (Rule (TheLevel k)) r ≡ Got (tree_at (Rule (TheLevel k)) r) r2 → level_of k (written_at (Rule (TheLevel k)) r) ≡ right → SoFar k empty start left ts → SoFar k empty start (e.Binary place op left right) r2
+goes_on : (k : ℕ) → k < 10 → (empty : Expression) (start ts : List Token) (left : Expression) (place : Place) (op : BinaryOperator) (r : List Token) (right : Expression) (r2 : List Token) → begins class_at (classes (operators k)) ts ≡ true → reads (one_of (operators k)) ts ≡ Got (tree_at (one_of (operators k)) ts) r → place_at (written_at (one_of (operators k)) ts) ≡ place → binary_of (written_at (one_of (operators k)) ts) ≡ op → reads (Rule (TheLevel k)) r ≡ Got (tree_at (Rule (TheLevel k)) r) r2 → level_of k (written_at (Rule (TheLevel k)) r) ≡ right → SoFar k empty start left ts → SoFar k empty start (e.Binary place op left right) r2
 goes_on k lt empty start ts left place op r right r2 b h q m g n p =
     let both = got_more k ts r r2 (tree_at (one_of (operators k)) ts) (tree_at (Rule (TheLevel k)) r) h g in
     let at = Lists.got_at (more k) ts (Pair (tree_at (one_of (operators k)) ts) (tree_at (Rule (TheLevel k)) r)) r2 both in
     let next : link k left (tree_at (more k) ts) ≡ e.Binary place op left right = ap (link k left) at ∙ rw (q, m, n) refl in
     Lists.goes_on (more k) (low k lt) (link k) empty start ts left (e.Binary place op left right) r2 b (both ∙ ap (λ x. Got x r2) (sym at)) next p
+
+-- the same with the value that was made of both
+pub goes_on_linked : (k : ℕ) → k < 10 → (empty : Expression) (start ts : List Token) (left : Expression) (place : Place) (op : BinaryOperator) (r : List Token) (right : Expression) (r2 : List Token) (value : Expression) → value ≡ e.Binary place op left right
+    → begins class_at (classes (operators k)) ts ≡ true → reads (one_of (operators k)) ts ≡ Got (tree_at (one_of (operators k)) ts) r → place_at (written_at (one_of (operators k)) ts) ≡ place → binary_of (written_at (one_of (operators k)) ts) ≡ op
+    → reads (Rule (TheLevel k)) r ≡ Got (tree_at (Rule (TheLevel k)) r) r2 → level_of k (written_at (Rule (TheLevel k)) r) ≡ right → SoFar k empty start left ts → SoFar k empty start value r2
+goes_on_linked k lt empty start ts left place op r right r2 value d b h q m g n p =
+    subst (λ (v : Expression). SoFar k empty start v r2) (sym d) (goes_on k lt empty start ts left place op r right r2 b h q m g n p)
 
 stuck_more : (k : ℕ) (ts r r2 : List Token) (o : Tree Token) → reads (one_of (operators k)) ts ≡ Got o r → reads (Rule (TheLevel k)) r ≡ Stuck r2 → reads (more k) ts ≡ Stuck r2
 stuck_more k ts r r2 o h g = ap (λ a. and_then a (λ x s. and_then (reads (Rule (TheLevel k)) s) (λ y u. Got (Pair x y) u))) h ∙ ap (λ a. and_then a (λ y u. Got (Pair o y) u)) g

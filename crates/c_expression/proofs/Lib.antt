@@ -4,5 +4,7 @@ pub mod Starts
 pub mod Lows
 pub mod Lists
 pub mod ListLoops
+pub mod Parts
+pub mod Operands
 pub mod Flags
 pub mod Chains

@@ -1,16 +1,12 @@
 -- What the regrouped tree of an expression means.
-use Rattle.std.proofs.Common.{◌≡◌, ℕ, zero, suc, ◌<◌, true, List, refl, subst, sym, arith}
+use Rattle.std.proofs.Common.{◌≡◌, ℕ, zero, suc, ◌<◌, true, refl, subst, sym, arith}
 use Rattle.std.specs.Prelude.{nat_le}
 use Rattle.grammar.specs.Grammar.{Expression, Rule, Tree, Nil, Leaf, Pair, Left, Right, Node, ◌▸◌}
-use Rattle.grammar.specs.Reading.{map_got, reading}
 use Rattle.c_lex.specs.declared.token.Token.{Token}
-use Rattle.c_grammar.specs.Next.{lookahead}
 use Rattle.c_grammar.specs.Factored.{Part, TheUnary, TheLevel, joined, factored_rule}
 use Rattle.c_grammar.specs.Trees.{written_level, written_expression, written_parenthesis, written_tree, as_written}
 use Rattle.c_expression.specs.Lexemes.{place_at}
 use Rattle.c_expression.specs.Expressions.{expression_of, level_of, unary_of, joined_of, after_of, parenthesis_of}
-use Rattle.c_expression.specs.Reads.{reads}
-use Rattle.c_expression.proofs.Opened.{opened}
 
 pub leveled : (k : ℕ) (u j : Tree Token) → level_of k (written_level k u j) ≡ joined_of k (unary_of u) j
 leveled zero u j = refl
@@ -37,11 +33,8 @@ parenthesis_meant o (Leaf t) = refl
 parenthesis_meant o (Pair x y) = refl
 parenthesis_meant o (Node x) = refl
 
-rule_is : (k : ℕ) → k < 10 → factored_rule (TheLevel k) ≡ (Rule TheUnary ▸ joined k)
+pub rule_is : (k : ℕ) → k < 10 → factored_rule (TheLevel k) ≡ (Rule TheUnary ▸ joined k)
 rule_is k h = let e : nat_le k 10 ≡ true = grind (arith, h) in rw e refl
-
-pub level_opened : (k : ℕ) → k < 10 → (ts : List Token) → reading lookahead (Rule (TheLevel k)) ts ≡ map_got Node (reads (Rule TheUnary ▸ joined k) ts)
-level_opened k h ts = subst (λ (r : Expression Part). reading lookahead (Rule (TheLevel k)) ts ≡ map_got Node (reads r ts)) (rule_is k h) (opened (TheLevel k) ts)
 
 pub level_meant : (k : ℕ) → k < 10 → (u j : Tree Token) → level_of k (written_tree (Rule (TheLevel k)) (Node (Pair u j))) ≡ joined_of k (unary_of (written_tree (Rule TheUnary) u)) (written_tree (joined k) j)
 level_meant k h u j =

@@ -6,7 +6,7 @@ use Rattle.grammar.specs.Reading.{map_got, reading, the_tree}
 use Rattle.grammar.proofs.Turns.{rule_turn, one_turn}
 use Rattle.c_lex.specs.declared.token.Token.{Token}
 use Rattle.c_grammar.specs.Next.{lookahead}
-use Rattle.c_grammar.specs.Factored.{Part, factored_rule, TheRight, TheExpression, TheUnary, TheNameless, TheParenthesis}
+use Rattle.c_grammar.specs.Factored.{Part, factored_rule, TheRight, TheUnary, TheNameless, TheParenthesis}
 use Rattle.c_grammar.proofs.Decides.{decides}
 use Rattle.c_grammar.specs.declared.symbol.Symbol.{Symbol}
 use Rattle.c_grammar.specs.Symbols.{class_of_symbol}
@@ -45,9 +45,6 @@ many_opened e low ts = one_turn lookahead decides (Many e) low ts
 
 pub right_opened : (ts : List Token) → reading lookahead (Rule TheRight) ts ≡ map_got Node (reads (factored_rule TheRight) ts)
 right_opened ts = opened TheRight ts
-
-pub expression_opened : (ts : List Token) → reading lookahead (Rule TheExpression) ts ≡ map_got Node (reads (factored_rule TheExpression) ts)
-expression_opened ts = opened TheExpression ts
 
 pub unary_opened : (ts : List Token) → reading lookahead (Rule TheUnary) ts ≡ map_got Node (reads (factored_rule TheUnary) ts)
 unary_opened ts = opened TheUnary ts

@@ -5,12 +5,12 @@ use Rattle.chk_base.specs.declared.place.Place.{Place}
 use Rattle.chk_base.specs.declared.text.Name.{Name}
 use Rattle.c_lex.specs.declared.token.Token.{Token}
 use Rattle.c_expression.specs.Lexemes.{nowhere, first_place, place_at, name_of, number_of, type_of, sign_of, binary_of}
-use Rattle.c_expression.specs.declared.expression.Expression.{Expression}
-use Rattle.c_expression.specs.declared.expression.Expression.TheVariants as e
-use Rattle.c_expression.specs.declared.expression.Argument.{Argument}
-use Rattle.c_expression.specs.declared.expression.Call.{Call}
-use Rattle.c_expression.specs.declared.expression.RightSide.{RightSide}
-use Rattle.c_expression.specs.declared.expression.RightSide.TheVariants as rights
+use Rattle.c_unit.specs.declared.expression.Expression.{Expression}
+use Rattle.c_unit.specs.declared.expression.Expression.TheVariants as e
+use Rattle.c_unit.specs.declared.expression.Argument.{Argument}
+use Rattle.c_unit.specs.declared.expression.Call.{Call}
+use Rattle.c_unit.specs.declared.expression.RightSide.{RightSide}
+use Rattle.c_unit.specs.declared.expression.RightSide.TheVariants as rights
 
 -- What stands for no expression.
 abbrev pub no_expression : Expression

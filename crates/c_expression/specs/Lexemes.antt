@@ -11,13 +11,13 @@ use Rattle.c_grammar.specs.declared.symbol.Symbol.{Symbol}
 use Rattle.c_grammar.specs.declared.symbol.Symbol.TheVariants as s
 use Rattle.c_grammar.specs.Symbols.{class_of_symbol}
 use Rattle.c_expression.specs.Reads.{class_at}
-use Rattle.c_expression.specs.declared.expression.Number.{Number}
-use Rattle.c_expression.specs.declared.expression.TypeName.{TypeName}
-use Rattle.c_expression.specs.declared.expression.TypeName.TheVariants as types
-use Rattle.c_expression.specs.declared.expression.UnaryOperator.{UnaryOperator}
-use Rattle.c_expression.specs.declared.expression.UnaryOperator.TheVariants as unary
-use Rattle.c_expression.specs.declared.expression.BinaryOperator.{BinaryOperator}
-use Rattle.c_expression.specs.declared.expression.BinaryOperator.TheVariants as binary
+use Rattle.c_unit.specs.declared.expression.Number.{Number}
+use Rattle.c_unit.specs.declared.expression.TypeName.{TypeName}
+use Rattle.c_unit.specs.declared.expression.TypeName.TheVariants as types
+use Rattle.c_unit.specs.declared.expression.UnaryOperator.{UnaryOperator}
+use Rattle.c_unit.specs.declared.expression.UnaryOperator.TheVariants as unary
+use Rattle.c_unit.specs.declared.expression.BinaryOperator.{BinaryOperator}
+use Rattle.c_unit.specs.declared.expression.BinaryOperator.TheVariants as binary
 
 -- No place of a text: that of a tree without tokens.
 abbrev pub nowhere : Place

@@ -7,12 +7,12 @@ ghost use Rattle.c_grammar.specs.Written.{arguments, called, spelled};
 ghost use Rattle.c_expression.specs.Expressions.{argument_of, arguments_of, call_of, further_argument, right_of};
 ghost use Rattle.c_expression.specs.Reads.{Gives, written_at};
 
-use crate::expression::{Argument, Arguments, Call, RightSide};
 use crate::expressions::{after, begins_expression, expression, indexed, nameless};
 use crate::lexeme::{begins, begins_name, name, place_here, symbol};
 use crate::stop::Stop;
 use c_grammar::symbol::Symbol;
 use c_lex::token::Token;
+use c_unit::expression::{Argument, Arguments, Call, RightSide};
 use chk_base::text::Name;
 use sqlite_items::Items;
 use std::alloc::Global;

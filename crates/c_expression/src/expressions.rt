@@ -4,22 +4,22 @@ ghost use Rattle.grammar.specs.Grammar.{Many, Rule, optional, ◌▸◌};
 ghost use Rattle.grammar.specs.Reading.{begins};
 ghost use Rattle.c_grammar.specs.Factored.{TheExpression, TheLevel, TheNameless, TheParenthesis, TheUnary, after, all_joined, joined};
 ghost use Rattle.c_grammar.specs.Next.{expression_firsts};
-ghost use Rattle.c_grammar.specs.Written.{index, one_of, operators};
-ghost use Rattle.c_expression.specs.Expressions.{after_of, chain_of, expression_of, indexed_of, joined_of, level_of, parenthesis_of, unary_of};
+ghost use Rattle.c_grammar.specs.Written.{choice, index, one_of, operators};
+ghost use Rattle.c_expression.specs.Expressions.{after_of, chain_of, choice_of, expression_of, indexed_of, joined_of, level_of, parenthesis_of, unary_of};
 ghost use Rattle.c_expression.specs.Reads.{Gives, class_at, written_at};
 
-use crate::expression::Expression;
 use crate::lexeme::{
     begins, begins_among, begins_name, begins_number, begins_type, name, number, sign, symbol,
     type_name,
 };
+use crate::nodes::{cast, conditional, element, linked, parenthesized, signed};
 use crate::operators::operator;
 use crate::stop::Stop;
 use c_grammar::symbol::Symbol;
 use c_lex::token::Token;
+use c_unit::expression::Expression;
 use chk_base::place::Place;
 use chk_base::text::Name;
-use sqlite_items::Boxed;
 use std::alloc::Global;
 
 /// Does an expression come next?
@@ -43,7 +43,6 @@ pub fn begins_expression(tokens: &[Token]) -> bool
 
 /// An expression.
 #[cycle(expressions)]
-#[tactic(auto, using(crate::proofs::Opened::expression_opened, crate::proofs::Opened::tree_at_is, crate::proofs::Meant::expression_meant))]
 pub fn expression(alloc: Global, tokens: &[Token]) -> Result<(Expression, &[Token]), Stop>
     ensures gives { Gives (λ x. x.1.now) result (Rule TheExpression) tokens.now }
     ensures means { IfOk result (λ x. expression_of (written_at (Rule TheExpression) tokens.now) ≡ x.0) }
@@ -55,7 +54,6 @@ pub fn expression(alloc: Global, tokens: &[Token]) -> Result<(Expression, &[Toke
 
 /// What follows the first operand of an expression.
 #[cycle(expressions)]
-#[tactic(auto, using(crate::proofs::Opened::tree_at_is))]
 pub(crate) fn after(
     alloc: Global,
     first: Expression,
@@ -66,25 +64,33 @@ pub(crate) fn after(
     ensures not_longer { IfOk result (λ x. length x.1.now ≤ length tokens.now) }
 {
     let (value, rest) = all_joined(alloc, first, tokens)?;
-    if !begins(rest, Symbol::Question) {
-        return Ok((value, rest));
+    choice(alloc, value, rest)
+}
+
+/// The two values of a condition, if they follow it.
+#[cycle(expressions)]
+#[tactic(auto, using(crate::proofs::Opened::tree_at_is))]
+fn choice(
+    alloc: Global,
+    condition: Expression,
+    tokens: &[Token],
+) -> Result<(Expression, &[Token]), Stop>
+    ensures gives { Gives (λ x. x.1.now) result (choice TheExpression) tokens.now }
+    ensures means { IfOk result (λ x. choice_of condition (written_at (choice TheExpression) tokens.now) ≡ x.0) }
+    ensures not_longer { IfOk result (λ x. length x.1.now ≤ length tokens.now) }
+{
+    if !begins(tokens, Symbol::Question) {
+        return Ok((condition, tokens));
     }
-    let (place, rest) = symbol(rest, Symbol::Question)?;
+    let (place, rest) = symbol(tokens, Symbol::Question)?;
     let (yes, rest) = expression(alloc, rest)?;
     let (_, rest) = symbol(rest, Symbol::Colon)?;
     let (no, rest) = expression(alloc, rest)?;
-    let value = Expression::Conditional(
-        place,
-        Boxed::new(alloc, value)?,
-        Boxed::new(alloc, yes)?,
-        Boxed::new(alloc, no)?,
-    );
-    Ok((value, rest))
+    Ok((conditional(alloc, place, condition, yes, no)?, rest))
 }
 
 /// What joins a first operand with others, by the operators of all levels.
 #[cycle(expressions)]
-#[tactic(auto, unfolding(c_grammar::specs::Factored::all_joined))]
 fn all_joined(
     alloc: Global,
     first: Expression,
@@ -136,12 +142,8 @@ fn chain(
     let mut rest = tokens;
     'items: while let Some((place, binary, after)) = operator(rest, level) {
         let (operand, after) = operand(alloc, after, level)?;
-        so_far = Expression::Binary(
-            place,
-            binary,
-            Boxed::new(alloc, so_far)?,
-            Boxed::new(alloc, operand)?,
-        );
+        let next = linked(alloc, place, binary, so_far, operand)?;
+        so_far = next;
         rest = after;
     }
     Ok((so_far, rest))
@@ -149,7 +151,6 @@ fn chain(
 
 /// An operand of a level.
 #[cycle(expressions)]
-#[tactic(auto, using(crate::proofs::Meant::level_opened, crate::proofs::Opened::tree_at_is, crate::proofs::Meant::level_meant))]
 fn operand(alloc: Global, tokens: &[Token], level: u8) -> Result<(Expression, &[Token]), Stop>
     requires { level < 10 }
     ensures gives { Gives (λ x. x.1.now) result (Rule (TheLevel level)) tokens.now }
@@ -193,7 +194,7 @@ pub(crate) fn indexed(
     let (_, rest) = symbol(tokens, Symbol::LeftBracket)?;
     let (index, rest) = expression(alloc, rest)?;
     let (_, rest) = symbol(rest, Symbol::RightBracket)?;
-    Ok((Expression::Element(name, Boxed::new(alloc, index)?), rest))
+    Ok((element(alloc, name, index)?, rest))
 }
 
 /// An operand that begins with no name.
@@ -206,10 +207,7 @@ pub(crate) fn nameless(alloc: Global, tokens: &[Token]) -> Result<(Expression, &
 {
     if let Some((place, sign, rest)) = sign(tokens) {
         let (operand, rest) = unary(alloc, rest)?;
-        return Ok((
-            Expression::Unary(place, sign, Boxed::new(alloc, operand)?),
-            rest,
-        ));
+        return Ok((signed(alloc, place, sign, operand)?, rest));
     }
     if begins(tokens, Symbol::LeftParenthesis) {
         let (place, rest) = symbol(tokens, Symbol::LeftParenthesis)?;
@@ -243,13 +241,9 @@ fn parenthesis(
         let (type_name, rest) = type_name(tokens)?;
         let (_, rest) = symbol(rest, Symbol::RightParenthesis)?;
         let (operand, rest) = unary(alloc, rest)?;
-        let operand = Boxed::new(alloc, operand)?;
-        return Ok((Expression::Cast(place, type_name, operand), rest));
+        return Ok((cast(alloc, place, type_name, operand)?, rest));
     }
     let (inner, rest) = expression(alloc, tokens)?;
     let (_, rest) = symbol(rest, Symbol::RightParenthesis)?;
-    Ok((
-        Expression::Parenthesis(place, Boxed::new(alloc, inner)?),
-        rest,
-    ))
+    Ok((parenthesized(alloc, place, inner)?, rest))
 }

@@ -9,12 +9,12 @@ ghost use Rattle.c_grammar.specs.Written.{name, number, one_of, signs, spelled, 
 ghost use Rattle.c_expression.specs.Lexemes.{first_place, is_spelled, name_of, number_of, place_at, sign_class, sign_of, type_class, type_of};
 ghost use Rattle.c_expression.specs.Reads.{Gives, class_at, reads, tree_at, written_at};
 
-use crate::expression::{Number, TypeName, UnaryOperator};
 use crate::stop::Stop;
 use c_grammar::symbol::{
     Symbol, is_name as token_is_name, is_number as token_is_number, is_spelled as token_is,
 };
 use c_lex::token::{Token, TokenKind};
+use c_unit::expression::{Number, TypeName, UnaryOperator};
 use chk_base::place::Place;
 use chk_base::text::Name;
 use std::alloc::{AllocError, Global};

@@ -7,10 +7,10 @@ ghost use Rattle.c_grammar.specs.Written.{assignments, one_of, operators};
 ghost use Rattle.c_expression.specs.Lexemes.{assigned_class, assigned_of, binary_class, binary_of, place_at};
 ghost use Rattle.c_expression.specs.Reads.{class_at, reads, tree_at, written_at};
 
-use crate::expression::BinaryOperator;
 use crate::lexeme::meaning;
 use c_grammar::symbol::Symbol;
 use c_lex::token::Token;
+use c_unit::expression::BinaryOperator;
 use chk_base::place::Place;
 
 /// `*`, `/` or `%`, if the token is one of them.

@@ -9,8 +9,8 @@ use Rattle.c_grammar.specs.Next.{local_firsts, simple_firsts}
 use Rattle.c_grammar.specs.Trees.{written_tree}
 use Rattle.c_expression.specs.Reads.{class_at, reads, tree_at, written_at}
 use Rattle.c_expression.proofs.Lists.{got_at}
-use Rattle.c_parse.specs.declared.statement.Simple.{Simple}
-use Rattle.c_parse.specs.declared.statement.Start.TheVariants as starts
+use Rattle.c_unit.specs.declared.statement.Simple.{Simple}
+use Rattle.c_unit.specs.declared.statement.Start.TheVariants as starts
 use Rattle.c_parse.specs.Statements.{simple_of, start_of}
 
 abbrev pub either : Expression Part

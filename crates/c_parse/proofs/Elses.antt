@@ -13,7 +13,7 @@ use Rattle.c_grammar.specs.Trees.{written_tree, written_else}
 use Rattle.c_grammar.specs.Written.{spelled}
 use Rattle.c_expression.specs.declared.stop.Stop.{Stop}
 use Rattle.c_expression.specs.declared.stop.Stop.TheVariants as stops
-use Rattle.c_parse.specs.declared.statement.Branch.{Branch}
+use Rattle.c_unit.specs.declared.statement.Branch.{Branch}
 use Rattle.c_parse.specs.Statements.{branch_of, branches_of, elses_of, last_of}
 use Rattle.c_expression.specs.Reads.{class_at, reads, tree_at, written_at, Stops}
 use Rattle.c_expression.proofs.Lists.{got_at}

@@ -9,12 +9,12 @@ use Rattle.c_grammar.specs.Factored.{TheBlock, TheExpression, TheFor, TheSimple}
 use Rattle.c_grammar.specs.Written.{spelled}
 use Rattle.c_expression.specs.Lexemes.{place_at}
 use Rattle.c_expression.specs.Reads.{reads, tree_at, written_at}
-use Rattle.c_expression.specs.declared.expression.Expression.{Expression}
+use Rattle.c_unit.specs.declared.expression.Expression.{Expression}
 use Rattle.c_expression.proofs.Opened.{tree_at_is}
-use Rattle.c_parse.specs.declared.statement.Simple.{Simple}
-use Rattle.c_parse.specs.declared.statement.Start.{Start}
-use Rattle.c_parse.specs.declared.statement.Statement.{Statement}
-use Rattle.c_parse.specs.declared.statement.Statement.TheVariants as s
+use Rattle.c_unit.specs.declared.statement.Simple.{Simple}
+use Rattle.c_unit.specs.declared.statement.Start.{Start}
+use Rattle.c_unit.specs.declared.statement.Statement.{Statement}
+use Rattle.c_unit.specs.declared.statement.Statement.TheVariants as s
 use Rattle.c_parse.specs.Statements.{block_of, expression_if, for_of, simple_if, start_of}
 use Rattle.c_parse.proofs.Choices.{either}
 use Rattle.c_parse.proofs.Opened.{for_opened}

@@ -1,4 +1,5 @@
 pub mod Opened
+pub mod Chains
 pub mod Meant
 pub mod Starts
 pub mod Choices

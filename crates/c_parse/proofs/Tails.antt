@@ -13,7 +13,7 @@ use Rattle.c_grammar.specs.Trees.{written_tree, written_else}
 use Rattle.c_grammar.specs.Written.{spelled, constant}
 use Rattle.c_expression.specs.declared.stop.Stop.{Stop}
 use Rattle.c_expression.specs.declared.stop.Stop.TheVariants as stops
-use Rattle.c_parse.specs.declared.unit.Constant.{Constant}
+use Rattle.c_unit.specs.declared.unit.Constant.{Constant}
 use Rattle.c_parse.specs.Units.{constant_of, further_constant, more_of}
 use Rattle.c_expression.specs.Reads.{class_at, reads, tree_at, written_at, Stops}
 use Rattle.c_expression.proofs.Lists.{got_at}

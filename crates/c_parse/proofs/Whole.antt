@@ -13,7 +13,7 @@ use Rattle.c_grammar.specs.Trees.{written_tree}
 use Rattle.c_grammar.specs.Written.{written, unit}
 use Rattle.c_grammar.proofs.Agree
 use Rattle.c_grammar.proofs.Decides.{decides}
-use Rattle.c_parse.specs.declared.unit.External.{External}
+use Rattle.c_unit.specs.declared.unit.External.{External}
 use Rattle.c_parse.specs.Depth.{IsShallow}
 use Rattle.c_parse.specs.Parsed.{IsUnit, Refuses, fault_at}
 use Rattle.c_expression.specs.Reads.{reads, tree_at, written_at}

@@ -8,7 +8,7 @@ use Rattle.c_grammar.specs.Symbols.{class_of}
 use Rattle.c_grammar.specs.Written.{written, unit}
 use Rattle.c_parse.specs.declared.fault.ParseFault.{ParseFault}
 use Rattle.c_parse.specs.declared.fault.ParseFault.TheVariants as faults
-use Rattle.c_parse.specs.declared.unit.Unit as units
+use Rattle.c_unit.specs.declared.unit.Unit as units
 use Rattle.c_parse.specs.Depth.{IsShallow, IsDepthFault}
 use Rattle.c_parse.specs.Units.{externals_of}
 

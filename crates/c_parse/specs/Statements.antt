@@ -6,18 +6,18 @@ use Rattle.chk_base.specs.declared.text.Name.{Name}
 use Rattle.c_lex.specs.declared.token.Token.{Token}
 use Rattle.c_expression.specs.Lexemes.{nowhere, first_place, place_at, name_of, type_of, assigned_of, has_const}
 use Rattle.c_expression.specs.Expressions.{no_expression, expression_of, call_of, right_of}
-use Rattle.c_expression.specs.declared.expression.Expression.{Expression}
-use Rattle.c_expression.specs.declared.expression.RightSide.{RightSide}
-use Rattle.c_parse.specs.declared.statement.Simple.{Simple}
-use Rattle.c_parse.specs.declared.statement.Simple.TheVariants as simples
-use Rattle.c_parse.specs.declared.statement.Declarator.{Declarator}
-use Rattle.c_parse.specs.declared.statement.Local.{Local}
-use Rattle.c_parse.specs.declared.statement.Start.{Start}
-use Rattle.c_parse.specs.declared.statement.Start.TheVariants as starts
-use Rattle.c_parse.specs.declared.statement.Statement.{Statement}
-use Rattle.c_parse.specs.declared.statement.Statement.TheVariants as s
-use Rattle.c_parse.specs.declared.statement.Branch.{Branch}
-use Rattle.c_parse.specs.declared.statement.Statement.TheViews.{roll-Branch}
+use Rattle.c_unit.specs.declared.expression.Expression.{Expression}
+use Rattle.c_unit.specs.declared.expression.RightSide.{RightSide}
+use Rattle.c_unit.specs.declared.statement.Simple.{Simple}
+use Rattle.c_unit.specs.declared.statement.Simple.TheVariants as simples
+use Rattle.c_unit.specs.declared.statement.Declarator.{Declarator}
+use Rattle.c_unit.specs.declared.statement.Local.{Local}
+use Rattle.c_unit.specs.declared.statement.Start.{Start}
+use Rattle.c_unit.specs.declared.statement.Start.TheVariants as starts
+use Rattle.c_unit.specs.declared.statement.Statement.{Statement}
+use Rattle.c_unit.specs.declared.statement.Statement.TheVariants as s
+use Rattle.c_unit.specs.declared.statement.Branch.{Branch}
+use Rattle.c_unit.specs.declared.statement.Statement.TheViews.{roll-Branch}
 
 -- ---- locals
 

@@ -1,23 +1,25 @@
 -- What a tree of the written grammar means as a unit.
 use Rattle.std.specs.Prelude.{Bool, true, false, cond, Option, Some, None, map, List, [], ◌∷◌}
 use Rattle.grammar.specs.Grammar.{Tree, Pair, Left, Right, Node, items}
+use Rattle.chk_base.specs.declared.place.Place.{Place}
 use Rattle.chk_base.specs.declared.text.Name.{Name}
 use Rattle.c_lex.specs.declared.token.Token.{Token}
 use Rattle.c_grammar.specs.declared.symbol.Symbol.TheVariants as words
 use Rattle.c_expression.specs.Lexemes.{nowhere, place_at, name_of, number_of, type_of, has_const, spelled_at}
 use Rattle.c_parse.specs.Statements.{block_of, close_of}
-use Rattle.c_expression.specs.declared.expression.TypeName.{TypeName}
-use Rattle.c_parse.specs.declared.unit.EntityKind.{EntityKind}
-use Rattle.c_parse.specs.declared.unit.EntityKind.TheVariants as kinds
-use Rattle.c_parse.specs.declared.unit.Constant.{Constant}
-use Rattle.c_parse.specs.declared.unit.Constant.TheVariants as constants
-use Rattle.c_parse.specs.declared.unit.Variable.{Variable}
-use Rattle.c_parse.specs.declared.unit.Variable.TheVariants as variables
-use Rattle.c_parse.specs.declared.unit.Declaration.{Declaration}
-use Rattle.c_parse.specs.declared.unit.Parameter.{Parameter}
-use Rattle.c_parse.specs.declared.unit.Signature.{Signature}
-use Rattle.c_parse.specs.declared.unit.External.{External}
-use Rattle.c_parse.specs.declared.unit.External.TheVariants as e
+use Rattle.c_unit.specs.declared.expression.Number.{Number}
+use Rattle.c_unit.specs.declared.expression.TypeName.{TypeName}
+use Rattle.c_unit.specs.declared.unit.EntityKind.{EntityKind}
+use Rattle.c_unit.specs.declared.unit.EntityKind.TheVariants as kinds
+use Rattle.c_unit.specs.declared.unit.Constant.{Constant}
+use Rattle.c_unit.specs.declared.unit.Constant.TheVariants as constants
+use Rattle.c_unit.specs.declared.unit.Variable.{Variable}
+use Rattle.c_unit.specs.declared.unit.Variable.TheVariants as variables
+use Rattle.c_unit.specs.declared.unit.Declaration.{Declaration}
+use Rattle.c_unit.specs.declared.unit.Parameter.{Parameter}
+use Rattle.c_unit.specs.declared.unit.Signature.{Signature}
+use Rattle.c_unit.specs.declared.unit.External.{External}
+use Rattle.c_unit.specs.declared.unit.External.TheVariants as e
 
 -- ---- constants
 
@@ -28,6 +30,16 @@ constant_of (Left (Pair m n)) = constants.Number (place_at n) false (number_of n
 constant_of (Right (Left t)) = constants.Truth (place_at t) true
 constant_of (Right (Right t)) = constants.Truth (place_at t) false
 constant_of _ = constants.Truth nowhere false
+
+-- the place of a minus sign, if there is one
+abbrev pub sign_at : Tree Token → Option Place
+sign_at (Left m) = Some (place_at m)
+sign_at _ = None
+
+-- a number with a minus sign at the place or without
+abbrev pub signed_by : Option Place → Number → Constant
+signed_by (Some place) n = constants.Number place true n
+signed_by None n = constants.Number n.place false n
 
 -- a constant after a comma
 abbrev pub further_constant : Tree Token → Constant

@@ -1,53 +1,116 @@
 // Readers of what stands at file level.
-ghost use Rattle.std.specs.Prelude.{◌≡◌, ◌<◌, ◌≤◌, [], ◌∷◌, ◌++◌, length, map, true, false, IfOk, IfSome, IfNone};
-ghost use Rattle.grammar.specs.Grammar.{Many, Rule, items, optional, ◌∣◌, ◌▸◌};
+ghost use Rattle.std.specs.Prelude.{◌≡◌, ◌<◌, ◌≤◌, [], ◌∷◌, ◌++◌, cond, length, map, true, false, IfOk, IfSome, IfNone};
+ghost use Rattle.grammar.specs.Grammar.{Left, Many, Right, Rule, has, items, optional, ◌∣◌, ◌▸◌};
 ghost use Rattle.grammar.specs.Reading.{Got, begins};
-ghost use Rattle.c_grammar.specs.declared.symbol.Symbol.TheVariants.{Assign, Comma, False, Minus, Semicolon, True};
+ghost use Rattle.c_grammar.specs.declared.symbol.Symbol.TheVariants.{Assign, Comma, Const, False, Minus, Semicolon, True};
 ghost use Rattle.c_grammar.specs.Symbols.{number_class};
 ghost use Rattle.c_grammar.specs.Factored.{TheBlock, TheBounds, TheExternal, TheFunction, TheTail, TheVariable, TheVariables, factored_constants, factored_parameters, factored_unit, initial, typed_rest, void_rest};
 ghost use Rattle.c_grammar.specs.Next.{classes, part_firsts};
 ghost use Rattle.c_grammar.specs.Trees.{written_constants, written_else, written_parameters};
-ghost use Rattle.c_grammar.specs.Written.{constant, declaring, entity, one_of, parameter, qualifier_words, qualifiers, spelled};
-ghost use Rattle.c_expression.specs.Lexemes.{has_const, is_const, spelled_at};
+ghost use Rattle.c_grammar.specs.Written.{constant, declaring, entity, number, one_of, parameter, qualifier_words, qualifiers, spelled};
+ghost use Rattle.c_expression.specs.Lexemes.{has_const, is_const, is_spelled, spelled_at};
 ghost use Rattle.c_expression.specs.Reads.{Gives, class_at, reads, tree_at, written_at};
-ghost use Rattle.c_parse.specs.Units.{after_name, array_of, constant_of, constants_of, declaring_of, defined_of, ended, entity_of, external_of, externals_of, function_of, further_parameter, further_variable, initial_of, more_of, parameter_of, parameters_of, typed_of, variable_of, void_of};
+ghost use Rattle.c_parse.specs.Units.{after_name, array_of, constant_of, constants_of, declaring_of, defined_of, ended, entity_of, external_of, externals_of, function_of, further_parameter, further_variable, initial_of, more_of, parameter_of, parameters_of, sign_at, signed_by, typed_of, variable_of, void_of};
+ghost use Rattle.c_unit.specs.declared.unit.External.TheVariants as externals;
 
-use crate::simples::{begins_local, either, local_qualifiers};
+use crate::simples::{begins_local, either, local_qualifiers, which};
 use crate::statements::block;
-use crate::unit::{
-    Constant, Constants, Declaration, Declarations, EntityKind, External, Externals, Function,
-    Parameter, Parameters, Signature, Variable,
-};
-use c_expression::expression::TypeName;
 use c_expression::lexeme::{
     begins, begins_among, begins_number, begins_type, is, name, number, symbol, type_name,
 };
 use c_expression::stop::Stop;
 use c_grammar::symbol::Symbol;
 use c_lex::token::Token;
+use c_unit::expression::{Number, TypeName};
+use c_unit::unit::{
+    Constant, Constants, Declaration, Declarations, EntityKind, External, Externals, Function,
+    Parameter, Parameters, Signature, Variable,
+};
+use chk_base::place::Place;
 use chk_base::text::Name;
 use sqlite_items::Items;
 use std::alloc::Global;
 
 /// One of two words: whether it is the first of them.
-#[tactic(auto, using(c_expression::proofs::Opened::or_false), unfolding(c_expression::specs::Reads::tree_at))]
+#[tactic(auto, unfolding(c_expression::specs::Reads::tree_at))]
 fn one_of_two(tokens: &[Token], first: Symbol, second: Symbol) -> Result<(bool, &[Token]), Stop>
     ensures gives { Gives (λ x. x.1.now) result (one_of (first ∷ second ∷ [])) tokens.now }
     ensures means { IfOk result (λ x. spelled_at first (written_at (one_of (first ∷ second ∷ [])) tokens.now) ≡ x.0) }
     ensures shorter { IfOk result (λ x. length x.1.now < length tokens.now) }
 {
     match tokens {
-        [token, rest @ ..] => {
-            if is(token, first) {
-                Ok((true, rest))
-            } else if is(token, second) {
-                Ok((false, rest))
-            } else {
-                Err(Stop::At(tokens))
-            }
-        }
+        [token, rest @ ..] => match which(token, first, second) {
+            Some(is_first) => Ok((is_first, rest)),
+            None => Err(Stop::At(tokens)),
+        },
         [] => Err(Stop::At(tokens)),
     }
+}
+
+/// Does a number with a sign or without come next?
+fn begins_signed(tokens: &[Token]) -> bool
+    ensures { result ≡ begins class_at (classes (Minus ∷ []) ++ number_class ∷ []) tokens.now }
+{
+    begins(tokens, Symbol::Minus) || begins_number(tokens)
+}
+
+/// A minus sign, if one comes next: its place.
+#[tactic(auto, using(c_expression::proofs::Opened::tree_at_is))]
+fn sign(tokens: &[Token]) -> Result<(Option<Place>, &[Token]), Stop>
+    ensures gives { Gives (λ x. x.1.now) result (optional (spelled Minus)) tokens.now }
+    ensures means { IfOk result (λ x. sign_at (written_at (optional (spelled Minus)) tokens.now) ≡ x.0) }
+    ensures not_longer { IfOk result (λ x. length x.1.now ≤ length tokens.now) }
+{
+    if !begins(tokens, Symbol::Minus) {
+        return Ok((None, tokens));
+    }
+    let (place, rest) = symbol(tokens, Symbol::Minus)?;
+    Ok((Some(place), rest))
+}
+
+/// The constant that a number is, with a minus sign at the place or without.
+fn signed_by(sign: Option<Place>, number: Number) -> Constant
+    ensures { result ≡ signed_by sign number }
+{
+    match sign {
+        Some(place) => Constant::Number {
+            place,
+            negative: true,
+            number,
+        },
+        None => Constant::Number {
+            place: number.place,
+            negative: false,
+            number,
+        },
+    }
+}
+
+/// A number with a sign or without.
+#[tactic(auto, using(c_expression::proofs::Opened::tree_at_is))]
+fn signed(tokens: &[Token]) -> Result<(Constant, &[Token]), Stop>
+    ensures gives { Gives (λ x. x.1.now) result (optional (spelled Minus) ▸ number) tokens.now }
+    ensures means { IfOk result (λ x. constant_of (Left (written_at (optional (spelled Minus) ▸ number) tokens.now)) ≡ x.0) }
+    ensures shorter { IfOk result (λ x. length x.1.now < length tokens.now) }
+{
+    let (sign, rest) = sign(tokens)?;
+    let (number, rest) = number(rest)?;
+    Ok((signed_by(sign, number), rest))
+}
+
+/// `true` or `false`.
+#[tactic(auto, using(c_expression::proofs::Opened::tree_at_is))]
+fn truth(tokens: &[Token]) -> Result<(Constant, &[Token]), Stop>
+    ensures gives { Gives (λ x. x.1.now) result (spelled True ∣ spelled False) tokens.now }
+    ensures means { IfOk result (λ x. constant_of (Right (written_at (spelled True ∣ spelled False) tokens.now)) ≡ x.0) }
+    ensures shorter { IfOk result (λ x. length x.1.now < length tokens.now) }
+{
+    if begins(tokens, Symbol::True) {
+        let (place, rest) = symbol(tokens, Symbol::True)?;
+        return Ok((Constant::Truth(place, true), rest));
+    }
+    let (place, rest) = symbol(tokens, Symbol::False)?;
+    Ok((Constant::Truth(place, false), rest))
 }
 
 /// A constant.
@@ -57,35 +120,12 @@ fn constant(tokens: &[Token]) -> Result<(Constant, &[Token]), Stop>
     ensures means { IfOk result (λ x. constant_of (written_at constant tokens.now) ≡ x.0) }
     ensures shorter { IfOk result (λ x. length x.1.now < length tokens.now) }
 {
-    if begins(tokens, Symbol::Minus) {
-        let (place, rest) = symbol(tokens, Symbol::Minus)?;
-        let (number, rest) = number(rest)?;
-        return Ok((
-            Constant::Number {
-                place,
-                negative: true,
-                number,
-            },
-            rest,
-        ));
+    if begins_signed(tokens) {
+        let (constant, rest) = signed(tokens)?;
+        return Ok((constant, rest));
     }
-    if begins_number(tokens) {
-        let (number, rest) = number(tokens)?;
-        return Ok((
-            Constant::Number {
-                place: number.place,
-                negative: false,
-                number,
-            },
-            rest,
-        ));
-    }
-    if begins(tokens, Symbol::True) {
-        let (place, rest) = symbol(tokens, Symbol::True)?;
-        return Ok((Constant::Truth(place, true), rest));
-    }
-    let (place, rest) = symbol(tokens, Symbol::False)?;
-    Ok((Constant::Truth(place, false), rest))
+    let (constant, rest) = truth(tokens)?;
+    Ok((constant, rest))
 }
 
 /// Does a constant come next?
@@ -177,7 +217,8 @@ fn variable(alloc: Global, tokens: &[Token]) -> Result<(Variable, &[Token]), Sto
     ensures shorter { IfOk result (λ x. length x.1.now < length tokens.now) }
 {
     let (name, rest) = name(alloc, tokens)?;
-    initial(alloc, name, rest)
+    let (variable, rest) = initial(alloc, name, rest)?;
+    Ok((variable, rest))
 }
 
 /// A variable after a comma.
@@ -279,7 +320,8 @@ fn further_parameter(alloc: Global, tokens: &[Token]) -> Result<(Parameter, &[To
     ensures shorter { IfOk result (λ x. length x.1.now < length tokens.now) }
 {
     let (_, rest) = symbol(tokens, Symbol::Comma)?;
-    parameter(alloc, rest)
+    let (parameter, rest) = parameter(alloc, rest)?;
+    Ok((parameter, rest))
 }
 
 /// Further parameters, put after those that there are.
@@ -371,8 +413,26 @@ fn function(
     ended(alloc, signature, rest)
 }
 
+/// Whether the qualifier is `const`, where the token is one.
+#[tactic(auto, using(c_expression::proofs::Opened::or_false))]
+fn qualifier_word(token: &Token) -> Option<bool>
+    ensures some { IfSome result (λ x. is_spelled Const token.now ≡ x) }
+    ensures found { IfSome result (λ _. has (classes qualifier_words) (class_at token.now) ≡ true) }
+    ensures none { IfNone result (has (classes qualifier_words) (class_at token.now) ≡ false) }
+{
+    if is(token, Symbol::Const) {
+        Some(true)
+    } else if is(token, Symbol::Static) {
+        Some(false)
+    } else if is(token, Symbol::Volatile) {
+        Some(false)
+    } else {
+        None
+    }
+}
+
 /// A qualifier at file level, if one comes next: whether it is `const`.
-#[tactic(auto, using(c_expression::proofs::Opened::or_false), unfolding(c_expression::specs::Reads::tree_at))]
+#[tactic(auto, unfolding(c_expression::specs::Reads::tree_at))]
 fn qualifier(tokens: &[Token]) -> Option<(bool, &[Token])>
     ensures gives { IfSome result (λ x. reads (one_of qualifier_words) tokens.now ≡ Got (tree_at (one_of qualifier_words) tokens.now) x.1.now) }
     ensures means { IfSome result (λ x. is_const (written_at (one_of qualifier_words) tokens.now) ≡ x.0) }
@@ -381,17 +441,10 @@ fn qualifier(tokens: &[Token]) -> Option<(bool, &[Token])>
     ensures shorter { IfSome result (λ x. length x.1.now < length tokens.now) }
 {
     match tokens {
-        [first, rest @ ..] => {
-            if is(first, Symbol::Const) {
-                Some((true, rest))
-            } else if is(first, Symbol::Static) {
-                Some((false, rest))
-            } else if is(first, Symbol::Volatile) {
-                Some((false, rest))
-            } else {
-                None
-            }
-        }
+        [first, rest @ ..] => match qualifier_word(first) {
+            Some(is_const) => Some((is_const, rest)),
+            None => None,
+        },
         [] => None,
     }
 }
@@ -452,6 +505,17 @@ fn defined(alloc: Global, constant: bool, tokens: &[Token]) -> Result<(External,
     typed(alloc, constant, tokens)
 }
 
+/// A declared task or resource.
+fn declared(is_task: bool, name: Name) -> External
+    ensures { result ≡ cond is_task (externals.DeclareTask name) (externals.DeclareResource name) }
+{
+    if is_task {
+        External::DeclareTask(name)
+    } else {
+        External::DeclareResource(name)
+    }
+}
+
 /// `DeclareTask` or `DeclareResource` with its name.
 #[tactic(auto, using(c_expression::proofs::Opened::tree_at_is))]
 fn declaring(alloc: Global, tokens: &[Token]) -> Result<(External, &[Token]), Stop>
@@ -464,10 +528,7 @@ fn declaring(alloc: Global, tokens: &[Token]) -> Result<(External, &[Token]), St
     let (name, rest) = name(alloc, rest)?;
     let (_, rest) = symbol(rest, Symbol::RightParenthesis)?;
     let (_, rest) = symbol(rest, Symbol::Semicolon)?;
-    if is_task {
-        return Ok((External::DeclareTask(name), rest));
-    }
-    Ok((External::DeclareResource(name), rest))
+    Ok((declared(is_task, name), rest))
 }
 
 /// The body of a task or an interrupt routine.

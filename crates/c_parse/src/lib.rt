@@ -1,12 +1,11 @@
 //! Tokens of C to a unit, exactly by the grammar.
 #![tactic(auto)]
 
+pub use c_unit::{expression, statement, unit};
+
 mod depth;
-pub mod expression;
 mod externals;
 pub mod fault;
 pub mod parse;
 mod simples;
-pub mod statement;
 mod statements;
-pub mod unit;

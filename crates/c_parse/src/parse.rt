@@ -5,10 +5,10 @@ ghost use Rattle.c_parse.specs.Parsed.{IsUnitOf, Refuses, fault_at};
 use crate::depth::too_deep;
 use crate::externals::externals;
 use crate::fault::ParseFault;
-use crate::unit::Unit;
 use c_expression::stop::Stop;
 use c_lex::token::Token;
 use c_lex::tokens::Tokens;
+use c_unit::unit::Unit;
 use std::alloc::Global;
 
 /// The fault where these tokens are left.

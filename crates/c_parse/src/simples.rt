@@ -1,18 +1,16 @@
 // Readers of locals and simple statements.
 ghost use Rattle.std.specs.Prelude.{◌≡◌, ◌<◌, ◌≤◌, [], ◌∷◌, ◌++◌, length, map, true, false, ◌||◌, IfOk, IfSome, IfNone};
-ghost use Rattle.grammar.specs.Grammar.{Many, Rule, items, optional, ◌▸◌};
+ghost use Rattle.grammar.specs.Grammar.{Many, Rule, has, items, optional, ◌▸◌};
 ghost use Rattle.grammar.specs.Reading.{Got, begins};
 ghost use Rattle.c_grammar.specs.declared.symbol.Symbol.TheVariants.{Assign, Comma, LeftBracket, RightBracket};
 ghost use Rattle.c_grammar.specs.Factored.{TheChange, TheExpression, TheLocal, TheRight, TheSimple};
 ghost use Rattle.c_grammar.specs.Next.{classes, local_firsts, simple_firsts};
 ghost use Rattle.c_grammar.specs.Written.{assertion, declarator, local_qualifiers, local_words, one_of, spelled};
-ghost use Rattle.c_expression.specs.Lexemes.{has_const, is_const};
+ghost use Rattle.c_expression.specs.Lexemes.{has_const, is_const, is_spelled};
 ghost use Rattle.c_expression.specs.Reads.{Gives, class_at, reads, tree_at, written_at};
 ghost use Rattle.c_parse.specs.Statements.{assertion_of, assign_of, change_of, declarator_of, element_of, further_declarator, initial_of, local_of, simple_of};
 
-use crate::statement::{Declarator, Declarators, Local, Simple};
 use c_expression::calls::{called, right};
-use c_expression::expression::RightSide;
 use c_expression::expressions::expression;
 use c_expression::lexeme::{
     begins, begins_among, begins_name, begins_type, is, name, symbol, type_name,
@@ -21,6 +19,8 @@ use c_expression::operators::assigned;
 use c_expression::stop::Stop;
 use c_grammar::symbol::Symbol;
 use c_lex::token::Token;
+use c_unit::expression::RightSide;
+use c_unit::statement::{Declarator, Declarators, Local, Simple};
 use chk_base::text::Name;
 use sqlite_items::Items;
 use std::alloc::Global;
@@ -43,8 +43,24 @@ pub(crate) fn begins_simple(tokens: &[Token]) -> bool
         )
 }
 
+/// Which of two words the token is: whether it is the first of them.
+#[tactic(auto, using(c_expression::proofs::Opened::or_false))]
+pub(crate) fn which(token: &Token, first: Symbol, second: Symbol) -> Option<bool>
+    ensures some { IfSome result (λ x. is_spelled first token.now ≡ x) }
+    ensures found { IfSome result (λ _. has (classes (first ∷ second ∷ [])) (class_at token.now) ≡ true) }
+    ensures none { IfNone result (has (classes (first ∷ second ∷ [])) (class_at token.now) ≡ false) }
+{
+    if is(token, first) {
+        Some(true)
+    } else if is(token, second) {
+        Some(false)
+    } else {
+        None
+    }
+}
+
 /// A qualifier of a local or a parameter, if one comes next: whether it is `const`.
-#[tactic(auto, using(c_expression::proofs::Opened::or_false), unfolding(c_expression::specs::Reads::tree_at))]
+#[tactic(auto, unfolding(c_expression::specs::Reads::tree_at))]
 fn local_qualifier(tokens: &[Token]) -> Option<(bool, &[Token])>
     ensures gives { IfSome result (λ x. reads (one_of local_words) tokens.now ≡ Got (tree_at (one_of local_words) tokens.now) x.1.now) }
     ensures means { IfSome result (λ x. is_const (written_at (one_of local_words) tokens.now) ≡ x.0) }
@@ -53,15 +69,10 @@ fn local_qualifier(tokens: &[Token]) -> Option<(bool, &[Token])>
     ensures shorter { IfSome result (λ x. length x.1.now < length tokens.now) }
 {
     match tokens {
-        [first, rest @ ..] => {
-            if is(first, Symbol::Const) {
-                Some((true, rest))
-            } else if is(first, Symbol::Volatile) {
-                Some((false, rest))
-            } else {
-                None
-            }
-        }
+        [first, rest @ ..] => match which(first, Symbol::Const, Symbol::Volatile) {
+            Some(is_const) => Some((is_const, rest)),
+            None => None,
+        },
         [] => None,
     }
 }
@@ -122,7 +133,8 @@ fn further_declarator(alloc: Global, tokens: &[Token]) -> Result<(Declarator, &[
     ensures shorter { IfOk result (λ x. length x.1.now < length tokens.now) }
 {
     let (_, rest) = symbol(tokens, Symbol::Comma)?;
-    declarator(alloc, rest)
+    let (declarator, rest) = declarator(alloc, rest)?;
+    Ok((declarator, rest))
 }
 
 /// Further declared locals, put after those that there are.

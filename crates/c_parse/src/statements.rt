@@ -9,13 +9,13 @@ ghost use Rattle.c_expression.specs.Reads.{Gives, class_at, written_at};
 ghost use Rattle.c_parse.specs.Statements.{block_of, branch_of, branches_of, close_of, expression_if, for_of, if_of, last_of, return_of, simple_if, start_of, statement_of, statements_of, while_of};
 
 use crate::simples::{begins_local, begins_simple, local, simple};
-use crate::statement::{Block, Branch, Branches, Simple, Start, Statement};
-use c_expression::expression::Expression;
 use c_expression::expressions::{begins_expression, expression};
 use c_expression::lexeme::{begins, begins_among, place_here, symbol};
 use c_expression::stop::Stop;
 use c_grammar::symbol::Symbol;
 use c_lex::token::Token;
+use c_unit::expression::Expression;
+use c_unit::statement::{Block, Branch, Branches, Simple, Start, Statement};
 use chk_base::place::Place;
 use sqlite_items::Items;
 use std::alloc::Global;

@@ -2,11 +2,11 @@
 use Rattle.std.proofs.Common.{◌≡◌, true, List, ◌++◌, Option, sym, ap, ◌∙◌}
 use Rattle.chk_base.specs.declared.place.Place.{Place}
 use Rattle.chk_base.specs.declared.text.Name.{Name}
-use Rattle.c_expression.specs.declared.expression.BinaryOperator.{BinaryOperator}
-use Rattle.c_expression.specs.declared.expression.Expression.{Expression, fold-roll-Expression}
-use Rattle.c_expression.specs.declared.expression.Expression.TheOpen.{Expression-F}
-use Rattle.c_expression.specs.declared.expression.Expression.TheVariants as e
-use Rattle.c_expression.specs.declared.expression.Expression.TheVariants.{rolls-Element, rolls-Binary, rolls-Conditional}
+use Rattle.c_unit.specs.declared.expression.BinaryOperator.{BinaryOperator}
+use Rattle.c_unit.specs.declared.expression.Expression.{Expression, fold-roll-Expression}
+use Rattle.c_unit.specs.declared.expression.Expression.TheOpen.{Expression-F}
+use Rattle.c_unit.specs.declared.expression.Expression.TheVariants as e
+use Rattle.c_unit.specs.declared.expression.Expression.TheVariants.{rolls-Element, rolls-Binary, rolls-Conditional}
 use Rattle.c_rules.specs.declared.first.Fault.{Fault}
 use Rattle.c_rules.specs.First.{first_of}
 use Rattle.c_rules.specs.Rules.{Means, use_faults, expression_faults, expression_layer}

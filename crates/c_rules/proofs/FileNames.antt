@@ -7,7 +7,7 @@ use Rattle.indexmap.proofs.CallerLemmas.{insert_entry-new}
 use Rattle.indexmap.specs.IndexMap.{IndexMap, insert_entry}
 use Rattle.c_rules.specs.declared.meaning.Meaning.{Meaning}
 use Rattle.std.proofs.lemmas.List.{drop_more}
-use Rattle.c_parse.specs.declared.unit.Signature.{Signature}
+use Rattle.c_unit.specs.declared.unit.Signature.{Signature}
 use Rattle.c_rules.specs.Files.{file_named, function_named}
 use Rattle.c_rules.specs.PlainFiles.{plain_entry, plain_files}
 

@@ -1,8 +1,8 @@
 -- The faults of the names of file level, part by part.
 use Rattle.std.proofs.Common.{◌≡◌, ℕ, ◌+◌, ◌<◌, List, Option, length, get_or, drop, fold, ap, ◌∙◌}
 use Rattle.std.proofs.lemmas.List.{drop_more}
-use Rattle.c_parse.specs.declared.unit.Declaration.{Declaration}
-use Rattle.c_parse.specs.declared.unit.External.{External}
+use Rattle.c_unit.specs.declared.unit.Declaration.{Declaration}
+use Rattle.c_unit.specs.declared.unit.External.{External}
 use Rattle.c_rules.specs.declared.first.Fault.{Fault}
 use Rattle.c_rules.specs.First.{first_of}
 use Rattle.c_rules.specs.Files.{Known, variable_name, with_variable, with_external}

@@ -2,16 +2,16 @@
 use Rattle.std.proofs.Common.{◌≡◌, ℕ, ◌+◌, ◌<◌, Bool, List, ◌++◌, Option, Some, length, get_or, drop, sym, ap, ◌∙◌}
 use Rattle.std.proofs.lemmas.List.{drop_more}
 use Rattle.chk_base.specs.declared.place.Place.{Place}
-use Rattle.c_expression.specs.declared.expression.TypeName.{TypeName}
-use Rattle.c_parse.specs.declared.statement.Declarator.{Declarator}
-use Rattle.c_expression.specs.declared.expression.Expression.{Expression}
-use Rattle.c_parse.specs.declared.statement.Branch.{Branch, out-Branch, fold_out-Branch}
-use Rattle.c_parse.specs.declared.statement.Simple.{Simple}
-use Rattle.c_parse.specs.declared.statement.Start.{Start}
-use Rattle.c_parse.specs.declared.statement.Statement.{Statement, fold-roll-Statement}
-use Rattle.c_parse.specs.declared.statement.Statement.TheOpen.{Statement-F}
-use Rattle.c_parse.specs.declared.statement.Statement.TheVariants as s
-use Rattle.c_parse.specs.declared.statement.Statement.TheVariants.{rolls-If, rolls-While, rolls-For}
+use Rattle.c_unit.specs.declared.expression.TypeName.{TypeName}
+use Rattle.c_unit.specs.declared.statement.Declarator.{Declarator}
+use Rattle.c_unit.specs.declared.expression.Expression.{Expression}
+use Rattle.c_unit.specs.declared.statement.Branch.{Branch, out-Branch, fold_out-Branch}
+use Rattle.c_unit.specs.declared.statement.Simple.{Simple}
+use Rattle.c_unit.specs.declared.statement.Start.{Start}
+use Rattle.c_unit.specs.declared.statement.Statement.{Statement, fold-roll-Statement}
+use Rattle.c_unit.specs.declared.statement.Statement.TheOpen.{Statement-F}
+use Rattle.c_unit.specs.declared.statement.Statement.TheVariants as s
+use Rattle.c_unit.specs.declared.statement.Statement.TheVariants.{rolls-If, rolls-While, rolls-For}
 use Rattle.c_rules.specs.declared.first.Fault.{Fault}
 use Rattle.c_rules.specs.First.{first_of, when}
 use Rattle.c_rules.specs.Files.{Known}

@@ -2,8 +2,8 @@
 use Rattle.std.proofs.Common.{◌≡◌, ℕ, ◌+◌, ◌<◌, ◌&&◌, zip, refl, true, false, Bool, List, ◌∷◌, Option, length, get_or, drop, ap, ◌∙◌}
 use Rattle.std.specs.List.{list_all}
 use Rattle.std.proofs.lemmas.List.{drop_more}
-use Rattle.c_parse.specs.declared.statement.Statement.{Statement}
-use Rattle.c_parse.specs.declared.unit.Parameter.{Parameter}
+use Rattle.c_unit.specs.declared.statement.Statement.{Statement}
+use Rattle.c_unit.specs.declared.unit.Parameter.{Parameter}
 use Rattle.c_rules.specs.declared.first.Fault.{Fault}
 use Rattle.c_rules.specs.First.{first_of, when}
 use Rattle.c_rules.specs.Scopes.{Scope, is_declared, declared}

@@ -3,14 +3,14 @@ use Rattle.std.specs.Prelude.{ℕ, if◌then◌else◌, List, [], ◌∷◌, ◌
 use Rattle.std.specs.Option.{option_map}
 use Rattle.std.specs.Str.{bytes_eq}
 use Rattle.chk_base.specs.declared.text.Name.{Name}
-use Rattle.app_model.specs.declared.app.App.{App}
-use Rattle.c_parse.specs.declared.unit.External.{External}
-use Rattle.c_parse.specs.declared.unit.External.TheVariants as e
-use Rattle.c_parse.specs.declared.unit.Declaration.{Declaration}
-use Rattle.c_parse.specs.declared.unit.Variable.{Variable}
-use Rattle.c_parse.specs.declared.unit.Variable.TheVariants as v
-use Rattle.c_parse.specs.declared.unit.Signature.{Signature}
-use Rattle.c_parse.specs.declared.unit.Unit.{Unit}
+use Rattle.application.specs.declared.app.App.{App}
+use Rattle.c_unit.specs.declared.unit.External.{External}
+use Rattle.c_unit.specs.declared.unit.External.TheVariants as e
+use Rattle.c_unit.specs.declared.unit.Declaration.{Declaration}
+use Rattle.c_unit.specs.declared.unit.Variable.{Variable}
+use Rattle.c_unit.specs.declared.unit.Variable.TheVariants as v
+use Rattle.c_unit.specs.declared.unit.Signature.{Signature}
+use Rattle.c_unit.specs.declared.unit.Unit.{Unit}
 use Rattle.c_rules.specs.declared.meaning.Meaning.{Meaning}
 use Rattle.c_rules.specs.declared.meaning.Meaning.TheVariants as m
 use Rattle.c_rules.specs.Meanings.{or_else, or_nothing, object_named, system_named, left_out_named}

@@ -2,7 +2,7 @@
 use Rattle.std.specs.Prelude.{ℕ, Bool, true, false, not, ◌||◌, ◌==◌, if◌then◌else◌, List, position, Option, Some, None, codes, is_some}
 use Rattle.std.specs.Option.{option_map}
 use Rattle.std.specs.Str.{bytes_eq}
-use Rattle.app_model.specs.declared.app.App.{App}
+use Rattle.application.specs.declared.app.App.{App}
 use Rattle.c_rules.specs.declared.meaning.ServiceName.{ServiceName}
 use Rattle.c_rules.specs.declared.meaning.ServiceName.TheVariants as services
 use Rattle.c_rules.specs.declared.meaning.Meaning.{Meaning}

@@ -3,12 +3,12 @@ use Rattle.std.specs.Prelude.{ℕ, Bool, true, false, not, ◌&&◌, ◌||◌, i
 use Rattle.std.specs.List.{flat_map}
 use Rattle.chk_base.specs.declared.place.Place.{Place}
 use Rattle.chk_base.specs.declared.text.Name.{Name}
-use Rattle.c_expression.specs.declared.expression.Expression.{Expression, fold-Expression, out-Expression}
-use Rattle.c_expression.specs.declared.expression.Expression.TheOpen.{Expression-F}
-use Rattle.c_expression.specs.declared.expression.Argument.{Argument}
-use Rattle.c_expression.specs.declared.expression.Call.{Call}
-use Rattle.c_expression.specs.declared.expression.RightSide.{RightSide}
-use Rattle.c_expression.specs.declared.expression.RightSide.TheVariants as rights
+use Rattle.c_unit.specs.declared.expression.Expression.{Expression, fold-Expression, out-Expression}
+use Rattle.c_unit.specs.declared.expression.Expression.TheOpen.{Expression-F}
+use Rattle.c_unit.specs.declared.expression.Argument.{Argument}
+use Rattle.c_unit.specs.declared.expression.Call.{Call}
+use Rattle.c_unit.specs.declared.expression.RightSide.{RightSide}
+use Rattle.c_unit.specs.declared.expression.RightSide.TheVariants as rights
 use Rattle.c_rules.specs.declared.first.Fault.{Fault}
 use Rattle.c_rules.specs.declared.meaning.Meaning.{Meaning}
 use Rattle.c_rules.specs.Meanings.{is_undeclared, is_function, is_variable, is_constant, is_misindexed, is_service, is_input, is_object, is_left_out_meaning, is_nothing, is_void, takes_other, takes_task, takes_resource, is_task, is_resource}

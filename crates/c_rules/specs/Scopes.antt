@@ -3,7 +3,7 @@ use Rattle.std.specs.Prelude.{ℕ, Bool, if◌then◌else◌, List, [], ◌∷�
 use Rattle.std.specs.List.{list_any}
 use Rattle.std.specs.Str.{bytes_eq}
 use Rattle.chk_base.specs.declared.text.Name.{Name}
-use Rattle.c_expression.specs.declared.expression.TypeName.{TypeName}
+use Rattle.c_unit.specs.declared.expression.TypeName.{TypeName}
 use Rattle.c_rules.specs.declared.meaning.LocalMeaning.{LocalMeaning}
 
 -- a parameter or local as it is declared

@@ -1,14 +1,14 @@
 -- The rules on statements, where some locals are declared: the faults that are in them.
 use Rattle.std.specs.Prelude.{Bool, true, false, not, if◌then◌else◌, List, [], ◌∷◌, ◌++◌, Option, Some, None, is_some}
 use Rattle.chk_base.specs.declared.text.Name.{Name}
-use Rattle.c_expression.specs.declared.expression.RightSide.{RightSide}
-use Rattle.c_expression.specs.declared.expression.TypeName.{TypeName}
-use Rattle.c_parse.specs.declared.statement.Simple.{Simple}
-use Rattle.c_parse.specs.declared.statement.Simple.TheVariants as simples
-use Rattle.c_parse.specs.declared.statement.Declarator.{Declarator}
-use Rattle.c_parse.specs.declared.statement.Local.{Local}
-use Rattle.c_parse.specs.declared.statement.Start.{Start}
-use Rattle.c_parse.specs.declared.statement.Start.TheVariants as starts
+use Rattle.c_unit.specs.declared.expression.RightSide.{RightSide}
+use Rattle.c_unit.specs.declared.expression.TypeName.{TypeName}
+use Rattle.c_unit.specs.declared.statement.Simple.{Simple}
+use Rattle.c_unit.specs.declared.statement.Simple.TheVariants as simples
+use Rattle.c_unit.specs.declared.statement.Declarator.{Declarator}
+use Rattle.c_unit.specs.declared.statement.Local.{Local}
+use Rattle.c_unit.specs.declared.statement.Start.{Start}
+use Rattle.c_unit.specs.declared.statement.Start.TheVariants as starts
 use Rattle.c_rules.specs.declared.first.Fault.{Fault}
 use Rattle.c_rules.specs.First.{when}
 use Rattle.c_rules.specs.Files.{Known, meaning}

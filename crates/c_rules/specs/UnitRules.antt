@@ -4,20 +4,20 @@ use Rattle.std.specs.List.{list_all, flat_map}
 use Rattle.std.specs.Str.{bytes_eq}
 use Rattle.chk_base.specs.declared.place.Place.{Place}
 use Rattle.chk_base.specs.declared.text.Name.{Name}
-use Rattle.app_model.specs.declared.app.App.{App}
-use Rattle.c_expression.specs.declared.expression.TypeName.{TypeName}
-use Rattle.c_expression.specs.declared.expression.TypeName.TheVariants as types
-use Rattle.c_parse.specs.declared.unit.Constant.{Constant}
-use Rattle.c_parse.specs.declared.unit.Constant.TheVariants as constants
-use Rattle.c_parse.specs.declared.unit.Declaration.{Declaration}
-use Rattle.c_parse.specs.declared.unit.External.{External}
-use Rattle.c_parse.specs.declared.unit.External.TheVariants as e
-use Rattle.c_parse.specs.declared.unit.Function.{Function}
-use Rattle.c_parse.specs.declared.unit.Parameter.{Parameter}
-use Rattle.c_parse.specs.declared.unit.Signature.{Signature}
-use Rattle.c_parse.specs.declared.unit.Unit.{Unit}
-use Rattle.c_parse.specs.declared.unit.Variable.{Variable}
-use Rattle.c_parse.specs.declared.unit.Variable.TheVariants as v
+use Rattle.application.specs.declared.app.App.{App}
+use Rattle.c_unit.specs.declared.expression.TypeName.{TypeName}
+use Rattle.c_unit.specs.declared.expression.TypeName.TheVariants as types
+use Rattle.c_unit.specs.declared.unit.Constant.{Constant}
+use Rattle.c_unit.specs.declared.unit.Constant.TheVariants as constants
+use Rattle.c_unit.specs.declared.unit.Declaration.{Declaration}
+use Rattle.c_unit.specs.declared.unit.External.{External}
+use Rattle.c_unit.specs.declared.unit.External.TheVariants as e
+use Rattle.c_unit.specs.declared.unit.Function.{Function}
+use Rattle.c_unit.specs.declared.unit.Parameter.{Parameter}
+use Rattle.c_unit.specs.declared.unit.Signature.{Signature}
+use Rattle.c_unit.specs.declared.unit.Unit.{Unit}
+use Rattle.c_unit.specs.declared.unit.Variable.{Variable}
+use Rattle.c_unit.specs.declared.unit.Variable.TheVariants as v
 use Rattle.c_rules.specs.declared.first.Fault.{Fault}
 use Rattle.c_rules.specs.First.{when}
 use Rattle.c_rules.specs.Meanings.{task_named, resource_named, object_named, system_named, is_scheduler_name}

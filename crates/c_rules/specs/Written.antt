@@ -1,13 +1,13 @@
 -- Statements as they are written, as plain trees.
 use Rattle.std.specs.Prelude.{List, [], ◌∷◌, map, Option, Some, None}
 use Rattle.chk_base.specs.declared.place.Place.{Place}
-use Rattle.c_expression.specs.declared.expression.Expression.{Expression}
-use Rattle.c_parse.specs.declared.statement.Local.{Local}
-use Rattle.c_parse.specs.declared.statement.Simple.{Simple}
-use Rattle.c_parse.specs.declared.statement.Start.{Start}
-use Rattle.c_parse.specs.declared.statement.Branch.{Branch, fold-Branch}
-use Rattle.c_parse.specs.declared.statement.Statement.{Statement, fold-Statement}
-use Rattle.c_parse.specs.declared.statement.Statement.TheOpen.{Statement-F, Branch-F}
+use Rattle.c_unit.specs.declared.expression.Expression.{Expression}
+use Rattle.c_unit.specs.declared.statement.Local.{Local}
+use Rattle.c_unit.specs.declared.statement.Simple.{Simple}
+use Rattle.c_unit.specs.declared.statement.Start.{Start}
+use Rattle.c_unit.specs.declared.statement.Branch.{Branch, fold-Branch}
+use Rattle.c_unit.specs.declared.statement.Statement.{Statement, fold-Statement}
+use Rattle.c_unit.specs.declared.statement.Statement.TheOpen.{Statement-F, Branch-F}
 
 mutual
   pub data WrittenStatement : Type 0 where

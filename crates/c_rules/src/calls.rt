@@ -11,7 +11,7 @@ use crate::first::First;
 use crate::meaning::Meaning;
 use crate::names::Names;
 use crate::scope::Scope;
-use c_expression::expression::{Argument, Call, RightSide};
+use c_unit::expression::{Argument, Call, RightSide};
 use chk_base::place::Place;
 use chk_base::text::Name;
 

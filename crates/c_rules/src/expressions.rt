@@ -9,7 +9,7 @@ use crate::first::First;
 use crate::meaning::Meaning;
 use crate::names::Names;
 use crate::scope::Scope;
-use c_expression::expression::Expression;
+use c_unit::expression::Expression;
 use chk_base::place::Place;
 use chk_base::text::Name;
 

@@ -3,7 +3,7 @@ ghost use Rattle.std.specs.Prelude.{◌≡◌};
 ghost use Rattle.c_rules.specs.Meanings.{is_undeclared, is_local, is_function, is_variable, is_constant, is_misindexed, is_service, is_input, is_object, is_left_out_meaning, is_nothing, is_void, service_arguments, takes_other, takes_task, takes_resource, is_task, is_resource};
 
 use crate::objects::is_scheduler_name;
-use c_expression::expression::TypeName;
+use c_unit::expression::TypeName;
 
 /// A system service by its name (OSEK OS 2.2.3, 13).
 #[derive(Clone, Copy, PartialEq, Eq, Debug)]

@@ -7,8 +7,8 @@ ghost use Rattle.c_rules.specs.Files.{known_meaning, meaning, file_named, functi
 use crate::meaning::{FunctionMeaning, Meaning, VariableMeaning};
 use crate::objects::{left_out_named, object_named, same, system_named};
 use crate::scope::Scope;
-use app_model::app::App;
-use c_parse::unit::{Declaration, Signature, Variable};
+use application::app::App;
+use c_unit::unit::{Declaration, Signature, Variable};
 use chk_base::text::Name;
 use indexmap::IndexMap;
 use std::alloc::{AllocError, Global};

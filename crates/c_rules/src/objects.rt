@@ -4,7 +4,7 @@ ghost use Rattle.std.specs.Str.{bytes_eq};
 ghost use Rattle.c_rules.specs.Meanings.{service_named, is_left_out, is_input_name, is_scheduler_name, task_named, routine_named, resource_named, object_named, system_named, left_out_named};
 
 use crate::meaning::{Meaning, ServiceName};
-use app_model::app::App;
+use application::app::App;
 
 /// Whether two texts have the same bytes. It takes no memory.
 pub fn same(a: &[u8], b: &[u8]) -> bool

@@ -8,8 +8,8 @@ use crate::first::{Fault, First};
 use crate::names::{Names, variable_name};
 use crate::objects::{object_named, system_named};
 use crate::units::seeing_externals;
-use app_model::app::App;
-use c_parse::unit::{Declaration, External, Unit};
+use application::app::App;
+use c_unit::unit::{Declaration, External, Unit};
 use chk_base::text::Name;
 use std::alloc::{AllocError, Global};
 

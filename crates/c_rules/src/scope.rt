@@ -6,7 +6,7 @@ ghost use Rattle.c_rules.specs.Scopes.{fresh, is_named, is_declared, local_named
 
 use crate::meaning::LocalMeaning;
 use crate::objects::same;
-use c_expression::expression::TypeName;
+use c_unit::expression::TypeName;
 use chk_base::text::Name;
 use std::alloc::{AllocError, Global};
 use std::marker::Model;

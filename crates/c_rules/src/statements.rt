@@ -12,8 +12,8 @@ use crate::expressions::{seeing_expression, seeing_optional, seeing_target};
 use crate::first::First;
 use crate::names::Names;
 use crate::scope::Scope;
-use c_expression::expression::{RightSide, TypeName};
-use c_parse::statement::{Branch, Declarator, Local, Simple, Start, Statement};
+use c_unit::expression::{RightSide, TypeName};
+use c_unit::statement::{Branch, Declarator, Local, Simple, Start, Statement};
 use chk_base::text::Name;
 use std::alloc::AllocError;
 

@@ -11,10 +11,10 @@ use crate::names::Names;
 use crate::objects::{is_scheduler_name, resource_named, same, task_named};
 use crate::scope::Scope;
 use crate::statements::seeing_block;
-use app_model::app::App;
-use c_expression::expression::TypeName;
-use c_parse::statement::Statement;
-use c_parse::unit::{Constant, Declaration, External, Function, Parameter, Signature, Variable};
+use application::app::App;
+use c_unit::expression::TypeName;
+use c_unit::statement::Statement;
+use c_unit::unit::{Constant, Declaration, External, Function, Parameter, Signature, Variable};
 use chk_base::place::Place;
 use std::alloc::{AllocError, Global};
 

@@ -4,13 +4,13 @@ use Rattle.std.specs.List.{flat_map}
 use Rattle.std.proofs.Math.Seq.{take-length}
 use Rattle.std.proofs.lemmas.List.{take_more, take_all, drop_more, append-nil, append_assoc, map-append}
 use Rattle.std.proofs.lemmas.List.Concat.{flat_map-append}
-use Rattle.c_expression.specs.declared.expression.Argument.{Argument}
-use Rattle.c_expression.specs.declared.expression.TypeName.{TypeName}
-use Rattle.c_parse.specs.declared.statement.Branch.{Branch, out-Branch, fold_out-Branch}
-use Rattle.c_parse.specs.declared.statement.Declarator.{Declarator}
-use Rattle.c_parse.specs.declared.statement.Statement.{Statement}
-use Rattle.c_parse.specs.declared.unit.Constant.{Constant}
-use Rattle.c_parse.specs.declared.unit.Parameter.{Parameter}
+use Rattle.c_unit.specs.declared.expression.Argument.{Argument}
+use Rattle.c_unit.specs.declared.expression.TypeName.{TypeName}
+use Rattle.c_unit.specs.declared.statement.Branch.{Branch, out-Branch, fold_out-Branch}
+use Rattle.c_unit.specs.declared.statement.Declarator.{Declarator}
+use Rattle.c_unit.specs.declared.statement.Statement.{Statement}
+use Rattle.c_unit.specs.declared.unit.Constant.{Constant}
+use Rattle.c_unit.specs.declared.unit.Parameter.{Parameter}
 use Rattle.c_rules.specs.declared.scope.Declared as of
 use Rattle.c_rules.specs.Files.{Known}
 use Rattle.c_rules.specs.PlainScopes.{plain_declared}
@@ -19,17 +19,17 @@ use Rattle.c_rules.specs.Scopes.{Scope, declared, entered, left}
 use Rattle.c_rules.specs.StatementRules.{means_in, after_declarators, after, after_block, after_branches}
 use Rattle.c_rules.specs.UnitRules.{after_parameters}
 use Rattle.c_rules.specs.Written.{WrittenStatement, WrittenBranch, BranchThen, statement_layer, branch_layer, written, written_block, written_branch, written_branches}
-use Rattle.c_types.specs.declared.typed.CType.{CType}
-use Rattle.c_types.specs.declared.typed.Local.{Local}
-use Rattle.c_types.specs.declared.typed.TypedExpr.{TypedExpr}
-use Rattle.c_types.specs.declared.typed.TypedStatement.{TypedStatement}
-use Rattle.c_types.specs.declared.typed.TypedFunction.{TypedFunction}
-use Rattle.c_types.specs.declared.typed.TypedEntity.{TypedEntity}
-use Rattle.c_types.specs.Plain.{PlainExpr, PlainStatement, block}
-use Rattle.c_types.specs.Views.{PlainBranch, expr_of, statement_of, function_of, entity_of}
-use Rattle.c_types.specs.TypedExpressions.{typed_expression}
-use Rattle.c_types.specs.TypedStatements.{argument_of, arguments_from, target_of, initial_of, declarators_of, typed_statement, typed_statements, typed_branches}
-use Rattle.c_types.specs.Typed.{start_of, starts_of, local_of, locals_of}
+use Rattle.typed_unit.specs.declared.typed.CType.{CType}
+use Rattle.typed_unit.specs.declared.typed.Local.{Local}
+use Rattle.typed_unit.specs.declared.typed.TypedExpr.{TypedExpr}
+use Rattle.typed_unit.specs.declared.typed.TypedStatement.{TypedStatement}
+use Rattle.typed_unit.specs.declared.typed.TypedFunction.{TypedFunction}
+use Rattle.typed_unit.specs.declared.typed.TypedEntity.{TypedEntity}
+use Rattle.typed_unit.specs.Plain.{PlainExpr, PlainStatement, block}
+use Rattle.typed_unit.specs.Views.{PlainBranch, expr_of, statement_of, function_of, entity_of}
+use Rattle.typed_unit.specs.TypedExpressions.{typed_expression}
+use Rattle.typed_unit.specs.TypedStatements.{argument_of, arguments_from, target_of, initial_of, declarators_of, typed_statement, typed_statements, typed_branches}
+use Rattle.typed_unit.specs.Typed.{start_of, starts_of, local_of, locals_of}
 
 -- a part behind others, and what follows it
 then : {X : Type 0} (xs ys part rest all : List X) → ys ≡ xs ++ part → all ≡ part ++ rest → ys ++ rest ≡ xs ++ all

@@ -2,29 +2,29 @@
 use Rattle.std.proofs.Common.{◌≡◌, List, [], ◌∷◌, Option, Some, None, map, sym, ap, ◌∙◌}
 use Rattle.std.specs.Prelude.{option_map}
 use Rattle.chk_base.specs.declared.place.Place.{Place}
-use Rattle.c_expression.specs.declared.expression.Expression.{Expression}
-use Rattle.c_parse.specs.declared.statement.Branch.{Branch}
-use Rattle.c_parse.specs.declared.statement.Simple.{Simple}
-use Rattle.c_parse.specs.declared.statement.Start.{Start}
-use Rattle.c_parse.specs.declared.statement.Statement.{Statement, fold-roll-Statement}
-use Rattle.c_parse.specs.declared.statement.Statement.TheOpen.{Statement-F}
-use Rattle.c_parse.specs.declared.statement.Statement.TheVariants as s
+use Rattle.c_unit.specs.declared.expression.Expression.{Expression}
+use Rattle.c_unit.specs.declared.statement.Branch.{Branch}
+use Rattle.c_unit.specs.declared.statement.Simple.{Simple}
+use Rattle.c_unit.specs.declared.statement.Start.{Start}
+use Rattle.c_unit.specs.declared.statement.Statement.{Statement, fold-roll-Statement}
+use Rattle.c_unit.specs.declared.statement.Statement.TheOpen.{Statement-F}
+use Rattle.c_unit.specs.declared.statement.Statement.TheVariants as s
 use Rattle.c_rules.specs.Files.{Known}
 use Rattle.c_rules.specs.Scopes.{Scope, entered}
 use Rattle.c_rules.specs.StatementRules.{means_in, after_branches, after_start}
 use Rattle.c_rules.specs.Written.{WrittenStatement, WrittenBranch, written, written_block, written_branches}
 use Rattle.c_rules.specs.Written as w
-use Rattle.c_types.specs.declared.typed.CType.{CType}
-use Rattle.c_types.specs.declared.typed.TypedExpr.{TypedExpr}
-use Rattle.c_types.specs.declared.typed.TypedBranch.{TypedBranch}
-use Rattle.c_types.specs.declared.typed.TypedStatement.{TypedStatement, fold-roll-TypedStatement}
-use Rattle.c_types.specs.declared.typed.TypedStatement.TheOpen.{TypedStatement-F}
-use Rattle.c_types.specs.declared.typed.TypedStatement.TheVariants as t
-use Rattle.c_types.specs.Plain.{PlainStatement, NoStatement, block}
-use Rattle.c_types.specs.Plain as p
-use Rattle.c_types.specs.Views.{PlainBranch, expr_of, statement_of, branch_of, branched, block_or_none, statement_layer, branch_layer}
-use Rattle.c_types.specs.TypedExpressions.{typed_expression}
-use Rattle.c_types.specs.TypedStatements.{start_of, step_of, optional_of, value_of, typed_statement, typed_statements, typed_branches}
+use Rattle.typed_unit.specs.declared.typed.CType.{CType}
+use Rattle.typed_unit.specs.declared.typed.TypedExpr.{TypedExpr}
+use Rattle.typed_unit.specs.declared.typed.TypedBranch.{TypedBranch}
+use Rattle.typed_unit.specs.declared.typed.TypedStatement.{TypedStatement, fold-roll-TypedStatement}
+use Rattle.typed_unit.specs.declared.typed.TypedStatement.TheOpen.{TypedStatement-F}
+use Rattle.typed_unit.specs.declared.typed.TypedStatement.TheVariants as t
+use Rattle.typed_unit.specs.Plain.{PlainStatement, NoStatement, block}
+use Rattle.typed_unit.specs.Plain as p
+use Rattle.typed_unit.specs.Views.{PlainBranch, expr_of, statement_of, branch_of, branched, block_or_none, statement_layer, branch_layer}
+use Rattle.typed_unit.specs.TypedExpressions.{typed_expression}
+use Rattle.typed_unit.specs.TypedStatements.{start_of, step_of, optional_of, value_of, typed_statement, typed_statements, typed_branches}
 
 -- a block
 pub block_seen : (place : Place) (body : List TypedStatement) → statement_of (t.Block place body) ≡ p.Block place (block (map statement_of body))

@@ -1,6 +1,6 @@
 -- What is answered for a C text.
-use Rattle.app_model.specs.declared.app.App.{App}
-use Rattle.c_parse.specs.declared.unit.Unit.{Unit as WrittenUnit}
+use Rattle.application.specs.declared.app.App.{App}
+use Rattle.c_unit.specs.declared.unit.Unit.{Unit as WrittenUnit}
 use Rattle.c_rules.specs.First.{IsFirst}
 use Rattle.c_rules.specs.UnitRules.{faults}
 use Rattle.c_types.specs.declared.types.TypeFault.{TypeFault}

@@ -1,7 +1,7 @@
-pub mod Plain
-pub mod Views
-pub mod Conversions
-pub mod TypedExpressions
-pub mod TypedStatements
-pub mod Typed
+pub use Rattle.typed_unit.specs.Plain
+pub use Rattle.typed_unit.specs.Views
+pub use Rattle.typed_unit.specs.Conversions
+pub use Rattle.typed_unit.specs.TypedExpressions
+pub use Rattle.typed_unit.specs.TypedStatements
+pub use Rattle.typed_unit.specs.Typed
 pub mod Answers

@@ -2,23 +2,23 @@
 ghost use Rattle.std.specs.Prelude.{◌≡◌, ◌++◌, ◌∷◌, [], map, slice_get, IfOk, OnOk};
 ghost use Rattle.std.specs.Option.{option_copied};
 ghost use Rattle.c_rules.specs.Files.{meaning};
-ghost use Rattle.c_types.specs.Views.{expr_of, statement_of};
-ghost use Rattle.c_types.specs.TypedStatements.{nothing_done, taker_of, argument_of, arguments_from, argument_meaning, task_of, resource_of, service_of, argument_place, input_of, function_call, service_call, call_of};
+ghost use Rattle.typed_unit.specs.Views.{expr_of, statement_of};
+ghost use Rattle.typed_unit.specs.TypedStatements.{nothing_done, taker_of, argument_of, arguments_from, argument_meaning, task_of, resource_of, service_of, argument_place, input_of, function_call, service_call, call_of};
 
 use crate::convert::{converted, ctype_named};
 use crate::expressions::typed_expression;
-use crate::typed::{Taker, TypedExpr, TypedExprs, TypedStatement};
-use app_model::app::Entity;
-use c_expression::expression::{Argument, Call};
-use c_parse::unit::{Parameter, Signature};
+use application::app::Entity;
 use c_rules::expressions::bare_name;
 use c_rules::meaning::{Meaning, ServiceName};
 use c_rules::names::Names;
 use c_rules::scope::Scope;
+use c_unit::expression::{Argument, Call};
+use c_unit::unit::{Parameter, Signature};
 use chk_base::place::Place;
 use sqlite_items::Items;
 use std::alloc::{AllocError, Global};
 use step_ir::event::Service;
+use typed_unit::typed::{Taker, TypedExpr, TypedExprs, TypedStatement};
 
 // A statement that does nothing, where a rule is broken.
 pub(crate) fn nothing_done(alloc: Global, place: Place) -> TypedStatement
@@ -235,7 +235,7 @@ fn service_call(
 }
 
 // A call at a place, whose result is taken or not.
-#[tactic(auto, unfolding(crate::specs::TypedStatements::call_of))]
+#[tactic(auto, unfolding(typed_unit::specs::TypedStatements::call_of))]
 pub(crate) fn call_of(
     alloc: Global,
     names: &Names<'_>,

@@ -1,15 +1,15 @@
 // Types and conversions (ISO/IEC 9899:1999, 6.3.1).
 ghost use Rattle.std.specs.Prelude.{◌≡◌, true, false, IfOk};
-ghost use Rattle.c_types.specs.Plain.{type_of};
-ghost use Rattle.c_types.specs.Views.{expr_of};
-ghost use Rattle.c_types.specs.Conversions.{int32, uint32, ctype_named, same_width, same_sign, same_ctype, is_uint32, promotion, common, place_of, converted, promoted, joined, unary_result, unary_of, joining, in_common, each_promoted, binary_of, conditional_of, word_in};
+ghost use Rattle.typed_unit.specs.Views.{expr_of};
+ghost use Rattle.typed_unit.specs.Conversions.{int32, uint32, ctype_named, same_width, same_sign, same_ctype, is_uint32, promotion, common, converted, promoted, joined, unary_result, unary_of, joining, in_common, each_promoted, binary_of, conditional_of, word_in};
 
-use crate::typed::{CType, TypedExpr};
-use c_expression::expression::{BinaryOperator, TypeName, UnaryOperator};
+use c_unit::expression::{BinaryOperator, TypeName, UnaryOperator};
 use chk_base::place::Place;
 use chk_base::word::Width;
 use sqlite_items::Boxed;
 use std::alloc::{AllocError, Global};
+use typed_unit::manner::Manner;
+use typed_unit::typed::{CType, TypedExpr};
 
 /// `int`, whose values have 32 bits. It takes no memory.
 pub fn int32() -> CType
@@ -109,46 +109,6 @@ fn common(a: CType, b: CType) -> CType
     }
 }
 
-impl TypedExpr {
-    /// Its type. It takes no memory.
-    pub fn ctype(&self) -> CType
-        ensures { result ≡ type_of (expr_of self.now) }
-    {
-        match self {
-            TypedExpr::Number(_, t, _) => *t,
-            TypedExpr::Truth(_, t, _) => *t,
-            TypedExpr::Local(_, t, _) => *t,
-            TypedExpr::Global(_, t, _) => *t,
-            TypedExpr::Element { ctype, .. } => *ctype,
-            TypedExpr::Parenthesis(_, t, _) => *t,
-            TypedExpr::Unary(_, t, _, _) => *t,
-            TypedExpr::Cast(_, t, _) => *t,
-            TypedExpr::Binary(_, t, _, _, _) => *t,
-            TypedExpr::Conditional(_, t, _, _, _) => *t,
-            TypedExpr::Conversion(_, t, _) => *t,
-        }
-    }
-
-    /// Its place. It takes no memory.
-    pub fn place(&self) -> Place
-        ensures { result ≡ place_of (expr_of self.now) }
-    {
-        match self {
-            TypedExpr::Number(p, _, _) => *p,
-            TypedExpr::Truth(p, _, _) => *p,
-            TypedExpr::Local(p, _, _) => *p,
-            TypedExpr::Global(p, _, _) => *p,
-            TypedExpr::Element { place, .. } => *place,
-            TypedExpr::Parenthesis(p, _, _) => *p,
-            TypedExpr::Unary(p, _, _, _) => *p,
-            TypedExpr::Cast(p, _, _) => *p,
-            TypedExpr::Binary(p, _, _, _, _) => *p,
-            TypedExpr::Conditional(p, _, _, _, _) => *p,
-            TypedExpr::Conversion(p, _, _) => *p,
-        }
-    }
-}
-
 // With a conversion to a type, where it has another one.
 pub(crate) fn converted(alloc: Global, to: CType, e: TypedExpr) -> Result<TypedExpr, AllocError>
     ensures { IfOk result (λ x. expr_of x ≡ converted to (expr_of e)) }
@@ -197,16 +157,6 @@ pub(crate) fn unary_of(
     let t = unary_result(op, a.ctype());
     let a = promoted(alloc, a)?;
     Ok(TypedExpr::Unary(place, t, op, Boxed::new(alloc, a)?))
-}
-
-/// How an operator treats its operands: it joins them in one type, which is that of the result, or to compare them; it shifts the left one;
-/// or each is a truth.
-#[derive(Clone, Copy, PartialEq, Eq, Debug)]
-pub enum Manner {
-    Arithmetic,
-    Comparing,
-    Shifting,
-    Deciding,
 }
 
 fn joining(op: BinaryOperator) -> Manner
@@ -266,7 +216,7 @@ fn each_promoted(
 }
 
 // An operator between two operands.
-#[tactic(auto, unfolding(crate::specs::Conversions::binary_of))]
+#[tactic(auto, unfolding(typed_unit::specs::Conversions::binary_of))]
 pub(crate) fn binary_of(
     alloc: Global,
     place: Place,
@@ -291,7 +241,7 @@ pub(crate) fn binary_of(
 }
 
 // A condition and two values.
-#[tactic(auto, unfolding(crate::specs::Conversions::conditional_of))]
+#[tactic(auto, unfolding(typed_unit::specs::Conversions::conditional_of))]
 pub(crate) fn conditional_of(
     alloc: Global,
     place: Place,

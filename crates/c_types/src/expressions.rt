@@ -1,18 +1,18 @@
 // Expressions with what each name means and with their types.
 ghost use Rattle.std.specs.Prelude.{◌≡◌, IfOk};
 ghost use Rattle.c_rules.specs.Files.{meaning};
-ghost use Rattle.c_types.specs.Views.{expr_of};
-ghost use Rattle.c_types.specs.TypedExpressions.{nothing_at, length_of, variable_of, array_length, element_of, number_of, parenthesis_of, typed_expression};
+ghost use Rattle.typed_unit.specs.Views.{expr_of};
+ghost use Rattle.typed_unit.specs.TypedExpressions.{nothing_at, length_of, variable_of, array_length, element_of, number_of, parenthesis_of, typed_expression};
 
 use crate::convert::{binary_of, conditional_of, ctype_named, int32, promoted, uint32, unary_of};
-use crate::typed::TypedExpr;
-use c_expression::expression::{Expression, Number};
 use c_rules::meaning::Meaning;
 use c_rules::names::Names;
 use c_rules::scope::Scope;
+use c_unit::expression::{Expression, Number};
 use chk_base::place::Place;
 use sqlite_items::Boxed;
 use std::alloc::{AllocError, Global};
+use typed_unit::typed::TypedExpr;
 
 // What stands where a rule is broken.
 fn nothing_at(place: Place) -> TypedExpr

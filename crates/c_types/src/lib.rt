@@ -1,10 +1,11 @@
 //! Units of C with what each name means, the type of each expression and each conversion.
 #![tactic(auto)]
 
+pub use typed_unit::typed;
+
 mod calls;
 pub mod convert;
 mod expressions;
 mod statements;
-pub mod typed;
 pub mod types;
 mod units;

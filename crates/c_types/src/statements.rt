@@ -4,23 +4,23 @@ ghost use Rattle.c_rules.specs.Files.{meaning};
 ghost use Rattle.c_rules.specs.Scopes.{entered, left};
 ghost use Rattle.c_rules.specs.StatementRules.{after, after_block, after_branches, after_local, after_start, after_declarators};
 ghost use Rattle.c_rules.specs.Written.{written, written_block, written_branches};
-ghost use Rattle.c_types.specs.Plain as p;
-ghost use Rattle.c_types.specs.Views.{expr_of, statement_of, branch_of, block_of as plain_block, branched, block_or_none};
-ghost use Rattle.c_types.specs.TypedStatements.{set_of, set_element_of, assign_of, update_of, one_at, simple_of, target_of, initial_of, declarators_of, local_of, start_of, step_of, optional_of, result_of, value_of, typed_statement, typed_statements, typed_branches};
+ghost use Rattle.typed_unit.specs.Plain as p;
+ghost use Rattle.typed_unit.specs.Views.{expr_of, statement_of, branch_of, block_of as plain_block, branched, block_or_none};
+ghost use Rattle.typed_unit.specs.TypedStatements.{set_of, set_element_of, assign_of, update_of, one_at, simple_of, target_of, initial_of, declarators_of, local_of, start_of, step_of, optional_of, result_of, value_of, typed_statement, typed_statements, typed_branches};
 
 use crate::calls::{call_of, nothing_done, taker_of};
 use crate::convert::{binary_of, converted, ctype_named, int32, promoted};
 use crate::expressions::{array_length, typed_expression, variable_of};
-use crate::typed::{CType, TypedBlock, TypedBranch, TypedBranches, TypedExpr, TypedStatement};
-use c_expression::expression::{BinaryOperator, Expression, RightSide, TypeName};
-use c_parse::statement::{Branch, Declarator, Local, Simple, Start, Statement};
 use c_rules::meaning::{LocalMeaning, Meaning};
 use c_rules::names::Names;
 use c_rules::scope::Scope;
+use c_unit::expression::{BinaryOperator, Expression, RightSide, TypeName};
+use c_unit::statement::{Branch, Declarator, Local, Simple, Start, Statement};
 use chk_base::place::Place;
 use chk_base::text::Name;
 use sqlite_items::Items;
 use std::alloc::{AllocError, Global};
+use typed_unit::typed::{CType, TypedBlock, TypedBranch, TypedBranches, TypedExpr, TypedStatement};
 
 // A value to the scalar of this meaning.
 fn set_of(
@@ -109,7 +109,7 @@ fn one_at(place: Place) -> TypedExpr
 }
 
 // A statement without statements in it.
-#[tactic(auto, unfolding(crate::specs::TypedStatements::simple_of))]
+#[tactic(auto, unfolding(typed_unit::specs::TypedStatements::simple_of))]
 fn simple_of(
     alloc: Global,
     names: &Names<'_>,

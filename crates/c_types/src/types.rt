@@ -1,18 +1,18 @@
 // From a C text and an application to the typed unit.
 ghost use Rattle.std.specs.Prelude.{◌≡◌, IfOk, IfErr, OnOk, []};
 ghost use Rattle.c_rules.specs.UnitRules.{faults};
-ghost use Rattle.c_types.specs.Views.{unit_of};
-ghost use Rattle.c_types.specs.Typed.{typed};
+ghost use Rattle.typed_unit.specs.Views.{unit_of};
+ghost use Rattle.typed_unit.specs.Typed.{typed};
 ghost use Rattle.c_types.specs.Answers.{IsRefusal};
 
-use crate::typed::TypedUnit;
 use crate::units::typed;
-use app_model::app::App;
-use c_parse::unit::Unit;
+use application::app::App;
 use c_rules::first::Fault;
 use c_rules::rules::{first_fault, read_names};
+use c_unit::unit::Unit;
 use chk_base::place::Place;
 use std::alloc::Global;
+use typed_unit::typed::TypedUnit;
 
 /// Why there is no typed unit: `Rule` has the number, 1 to 20, and the place of the first rule that is broken, which is that at the least
 /// place, and there that with the least number; `Memory` is want of memory.

@@ -6,32 +6,32 @@ ghost use Rattle.c_rules.specs.Files.{known_of};
 ghost use Rattle.c_rules.specs.PlainScopes.{plain_declared};
 ghost use Rattle.c_rules.specs.UnitRules.{after_parameters};
 ghost use Rattle.c_rules.specs.Written.{written_block};
-ghost use Rattle.c_parse.specs.declared.unit.Variable.TheVariants as v;
-ghost use Rattle.c_types.specs.Conversions.{ctype_named as named};
-ghost use Rattle.c_types.specs.Views.{function_of as plain_function, entity_of as plain_entity, unit_of};
-ghost use Rattle.c_types.specs.Typed.{constant_word, start_of, starts_of, global_of, global_declared, globals_in, local_of, locals_of, function_of, functions_in, entity_named, entity_of, entity_in, typed};
+ghost use Rattle.c_unit.specs.declared.unit.Variable.TheVariants as v;
+ghost use Rattle.typed_unit.specs.Conversions.{ctype_named as named};
+ghost use Rattle.typed_unit.specs.Views.{function_of as plain_function, entity_of as plain_entity, unit_of};
+ghost use Rattle.typed_unit.specs.Typed.{constant_word, start_of, starts_of, global_of, global_declared, globals_in, local_of, locals_of, function_of, functions_in, entity_named, entity_of, entity_in, typed};
 
 use crate::convert::{ctype_named, word_in};
 use crate::expressions::length_of;
 use crate::statements::block_of;
-use crate::typed::{
-    CType, GlobalVar, Globals, Local, Locals, TypedEntities, TypedEntity, TypedFunction,
-    TypedFunctions, TypedUnit,
-};
-use app_model::app::{App, Entity};
-use c_expression::expression::TypeName;
-use c_parse::statement::Statement;
-use c_parse::unit::{
-    Constant, Declaration, EntityKind, External, Function, Parameter, Unit, Variable,
-};
+use application::app::{App, Entity};
 use c_rules::names::Names;
 use c_rules::objects::{routine_named, task_named};
 use c_rules::scope::{Declared, Scope};
+use c_unit::expression::TypeName;
+use c_unit::statement::Statement;
+use c_unit::unit::{
+    Constant, Declaration, EntityKind, External, Function, Parameter, Unit, Variable,
+};
 use chk_base::place::Place;
 use chk_base::sets::Values;
 use chk_base::text::Name;
 use sqlite_items::Items;
 use std::alloc::{AllocError, Global};
+use typed_unit::typed::{
+    CType, GlobalVar, Globals, Local, Locals, TypedEntities, TypedEntity, TypedFunction,
+    TypedFunctions, TypedUnit,
+};
 
 // A constant as a word of 32 bits.
 fn constant_word(constant: &Constant) -> u32
@@ -187,7 +187,7 @@ fn result_named(name: Option<TypeName>) -> Option<CType>
 }
 
 // A function with its body.
-#[tactic(auto, unfolding(crate::specs::Typed::function_of))]
+#[tactic(auto, unfolding(typed_unit::specs::Typed::function_of))]
 fn function_of(alloc: Global, names: &Names<'_>, f: &Function) -> Result<TypedFunction, AllocError>
     ensures { IfOk result (λ x. plain_function x ≡ function_of names.now f.now) }
 {
@@ -222,7 +222,7 @@ fn entity_named(app: &App, kind: EntityKind, name: &[u8]) -> Option<Entity>
 }
 
 // The body of a task or routine.
-#[tactic(auto, unfolding(crate::specs::Typed::entity_of))]
+#[tactic(auto, unfolding(typed_unit::specs::Typed::entity_of))]
 fn entity_of(
     alloc: Global,
     names: &Names<'_>,
@@ -346,7 +346,7 @@ fn entities_of(
 }
 
 // The typed unit, where this is what is known of the text.
-#[tactic(auto, unfolding(crate::specs::Typed::typed))]
+#[tactic(auto, unfolding(typed_unit::specs::Typed::typed))]
 pub(crate) fn typed(
     alloc: Global,
     app: &App,

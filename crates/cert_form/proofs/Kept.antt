@@ -6,6 +6,14 @@ use Rattle.cert_form.specs.Words.{Token, word, words, behind}
 use Rattle.cert_form.specs.Parts.{passed}
 use Rattle.cert_form.proofs.Readers.{times_unrolled}
 
+pub map_same : {A : Type 0} (a : Answer A Token) → map_got (λ x. x) a ≡ a
+map_same (Got x r) = refl
+map_same (Stuck l) = refl
+
+pub and_assoc : {A B C : Type 0} (a : Answer A Token) (f : A → List Token → Answer B Token) (g : B → List Token → Answer C Token) → and_then (and_then a f) g ≡ and_then a (λ x r. and_then (f x r) g)
+and_assoc (Got x r) f g = refl
+and_assoc (Stuck s) f g = refl
+
 module _ {A B : Type 0} where
   pub and_same : (a : Answer A Token) (k l : A → List Token → Answer B Token) → ((x : A) (r : List Token) → k x r ≡ l x r) → and_then a k ≡ and_then a l
   and_same (Got x r) k l e = e x r
@@ -101,6 +109,19 @@ module _ {A C : Type 0} (f : A → C) where
       behind_kept (ended F (word w)) ws ts
       ∙ ap (λ a. and_then a (λ y r. and_then ((words ws nothing).read r) (λ _ r2. Got y r2))) (ended_kept F (word w) ts)
       ∙ behind_step w ws (map_got f (F.read ts))
+
+-- ---- where all is kept
+
+pub words_read : {A : Type 0} (ws : List Token) (F : Format A Token) (ts : List Token) → map_got (λ x. x) ((words (ws ++ []) F).read ts) ≡ and_then ((words ws nothing).read ts) (λ _ r. F.read r)
+words_read {A} ws F ts =
+    words_front {A = A} (λ x. x) ws [] F ts
+    ∙ and_same ((words ws nothing).read ts) (λ _ r. map_got (λ x. x) (F.read r)) (λ _ r. F.read r) (λ _ r. map_same (F.read r))
+
+pub behind_read : {A : Type 0} (F : Format A Token) (ws : List Token) (ts : List Token) → (behind F ws).read ts ≡ and_then (F.read ts) (λ y r. and_then ((words ws nothing).read r) (λ _ r2. Got y r2))
+behind_read {A} F ws ts =
+    sym (map_same ((behind F ws).read ts))
+    ∙ behind_kept {A = A} (λ x. x) F ws ts
+    ∙ ap (λ a. and_then a (λ y r. and_then ((words ws nothing).read r) (λ _ r2. Got y r2))) (map_same (F.read ts))
 
 -- ---- so many, of which nothing is kept
 

@@ -7,6 +7,8 @@ pub mod Kept
 pub mod LabelParts
 pub mod TableParts
 pub mod Whole
+pub mod Endings
+pub mod Parted
 mod Rows
 pub mod Plain
 pub mod Valid

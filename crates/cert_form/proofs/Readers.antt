@@ -11,10 +11,10 @@ use Rattle.clause_form.specs.declared.line.Line.{Line}
 use Rattle.clause_form.specs.Literals.{variable, is_within, last_variable}
 use Rattle.format.specs.Format.{turn, map_some, ahead, and_then, mapped, pair, times}
 use Rattle.format.proofs.Exact.{so_far_stop, so_far_more, so_far_stuck, ahead_none, ahead_more}
-use Rattle.cert_form.specs.Words.{Token, value_after, is_number, number_of, in_range, within, limit, word, number, spaced, lined, signed, option_signed, literal_of, between, is_between, literal, value_token, behind, lf, sp, words}
-use Rattle.cert_form.specs.Certificate.{HoldsWord, FailsWord, UndecidedWord, end_word, nought, clause, clause_from, clause_turn, hints, hint_turn, log_line, log, log_turn, model, chosen, EndWord, Ending, end_rest, ending}
+use Rattle.cert_form.specs.Words.{Token, value_after, is_number, number_of, in_range, within, limit, word, number, spaced, lined, signed, option_signed, literal_of, between, is_between, literal, value_token}
+use Rattle.cert_form.specs.Certificate.{HoldsWord, FailsWord, UndecidedWord, end_word, nought, clause, clause_from, clause_turn, hints, hint_turn, log_line, log, log_turn, chosen, EndWord, Ending, end_rest}
 use Rattle.cert_form.proofs.Certificate.{stops_at, spaced_exact, clause_apart, hints_apart, log_line_exact, log_line_apart}
-use Rattle.std.specs.Prelude.{Err}
+use Rattle.std.specs.Prelude.{Err, Ok, Result}
 use denote.Ref.{Bor}
 use Rattle.cert_form.specs.Verdicts.{value_of}
 use Rattle.cert_form.specs.Texts.{tokens, starts, Gives, GivesBy}
@@ -263,6 +263,13 @@ pub err_by : {X Y : Type 0} {V W : Type 0} (e : ReadError) (whole : List Token �
 err_by Memory whole read text rest x x_left y y_left k h = tt
 err_by (At r) whole read text rest x x_left y y_left k h = k (tokens r.now) h
 
+-- what is read last
+module _ (whole last : List Token → Answer (Unit {0}) Token) (text rest : List ℕ) (same : whole (tokens text) ≡ last (tokens rest)) where
+  pub gives_last : (e : Result (Bor (List ℕ)) ReadError) → GivesBy last (λ _. tt) (λ r. r.now) e rest → GivesBy whole (λ _. tt) (λ r. r.now) e text
+  gives_last (Ok r) h = same ∙ h
+  gives_last (Err Memory) h = tt
+  gives_last (Err (At r)) h = same ∙ h
+
 -- ---- clauses as they grow
 
 pub last_variable_append : (k : ℕ) (ls : List Lit) (l : Lit) → last_variable k (ls ++ l ∷ []) ≡ variable l
@@ -419,13 +426,6 @@ minus_other ds (c ∷ cs) h e = let f : eqb c 45 ≡ false = grind (arith, nat_t
 pub values_start : (n : ℕ) (ts : List Token) → (times (λ v. spaced (value_token v)) 1 n).read ts ≡ ahead [] ((times (λ v. spaced (value_token v)) 1 (n + 1 - 1)).read ts)
 values_start n ts = let e : n + 1 - 1 ≡ n = omega arith in rw e (ahead_none ((times (λ v. spaced (value_token v)) 1 n).read ts))
 
-abbrev pub model_read : ℕ → List Token → Answer (List Bool) Token
-model_read n ts = (words (codes "model" ∷ (sp ∷ [])) (behind (times (λ v. spaced (value_token v)) 1 n) (nought ∷ (lf ∷ [])))).read ts
-
-pub model_opened : (n : ℕ) (ts : List Token) → (model n).read ts ≡ model_read n ts
-unfolding model
-model_opened n ts = refl
-
 pub chosen_opened : (n : ℕ) (w : EndWord) (ts rest : List Token) → end_word.read ts ≡ Got w rest → (chosen n).read ts ≡ (end_rest n w).read rest
 unfolding chosen
 chosen_opened n w ts rest e = rw e (same ((end_rest n w).read rest))
@@ -437,12 +437,3 @@ chosen_opened n w ts rest e = rw e (same ((end_rest n w).read rest))
 pub chosen_stuck : (n : ℕ) (ts left : List Token) → end_word.read ts ≡ Stuck left → (chosen n).read ts ≡ Stuck left
 unfolding chosen
 chosen_stuck n ts left e = rw e refl
-
--- ---- the end
-
-abbrev pub ending_read : ℕ → List Token → Answer Ending Token
-ending_read n ts = (words (sp ∷ []) (behind (chosen n) (codes "end" ∷ (lf ∷ [])))).read ts
-
-pub ending_opened : (n : ℕ) (ts : List Token) → (ending n).read ts ≡ ending_read n ts
-unfolding ending
-ending_opened n ts = refl

@@ -10,7 +10,8 @@ use Rattle.format.proofs.Exact.{never_exact, loop_stop, loop_more, loop_stuck, m
 use Rattle.cert_form.specs.Words.{Token, sp, lf, limit, word, words, behind, lined, literal}
 use Rattle.cert_form.specs.Certificate.{nought, table_line, depth_line, turn_line, shifted_line, up_to_17, single, still, as_rows, rows_after, moving, no_rows, tables}
 use Rattle.cert_form.specs.Texts.{starts}
-use Rattle.cert_form.specs.Parts.{passed, literal_read, line_read, row_read, rows_read, first_stop, first_line, first_line_read, is_some, first_turn, first_rest_read, first_row_read, moving_read, tables_read}
+use Rattle.cert_form.specs.Parts.{passed, literal_read, line_read, row_read, rows_read, first_stop, first_line, first_line_read}
+use Rattle.cert_form.specs.Parts.{is_some, first_turn, first_rest_read, first_row_read, second_row_read, after_width_read, moving_read, tables_read}
 use Rattle.cert_form.proofs.Readers.{turn_stop, turn_else}
 use Rattle.cert_form.proofs.Certificate.{stops_at, depth_line_exact, shifted_line_exact, depth_line_apart, shifted_line_apart}
 use Rattle.cert_form.proofs.Kept.{and_same, kept_twice, mapped_kept, pair_kept, words_front, ended_kept, behind_kept, passes_more, passes_stuck, passes_done}
@@ -194,12 +195,16 @@ later_rows n m k = times (λ t. times (depth_line n t) 0 m) 2 k
 abbrev after_width : ℕ → ℕ → ℕ → Format (List Lit × List (List Lit)) Token
 after_width n k m = words (sp ∷ (nought ∷ (sp ∷ []))) (pair (second_row n m) (λ _. later_rows n m k))
 
-abbrev after_width_read : ℕ → ℕ → ℕ → List Token → Answer (Unit {0}) Token
-after_width_read n k m ts =
-    and_then ((words (sp ∷ (nought ∷ (sp ∷ []))) nothing).read ts) (λ _ r. and_then (and_then (literal_read n r) (λ _ r. row_read (codes "depth") n 1 1 (m - 1) r)) (λ _ r. rows_read (codes "depth") n m 2 k r))
+pub second_row_opened : (n m : ℕ) (ts : List Token) → second_row_read n m ts ≡ and_then (literal_read n ts) (λ _ r. row_read (codes "depth") n 1 1 (m - 1) r)
+unfolding second_row_read
+second_row_opened n m ts = refl
+
+pub after_width_split : (n k m : ℕ) (ts : List Token) → after_width_read n k m ts ≡ and_then ((words (sp ∷ (nought ∷ (sp ∷ []))) nothing).read ts) (λ _ r. and_then (second_row_read n m r) (λ _ r. rows_read (codes "depth") n m 2 k r))
+unfolding after_width_read
+after_width_split n k m ts = refl
 
 after_width_opened : (n k m : ℕ) (ts : List Token) → passed ((after_width n k m).read ts) ≡ after_width_read n k m ts
-unfolding literal_read row_read rows_read
+unfolding literal_read row_read rows_read second_row_read after_width_read
 after_width_opened n k m ts =
     words_front (λ _. tt) (sp ∷ (nought ∷ (sp ∷ []))) [] (pair (second_row n m) (λ _. later_rows n m k)) ts
     ∙ and_same ((words (sp ∷ (nought ∷ (sp ∷ []))) nothing).read ts)

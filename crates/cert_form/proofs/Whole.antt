@@ -9,11 +9,7 @@ use Rattle.cert_form.specs.Words.{Token, sp, lf, limit, number, word, words, spa
 use Rattle.cert_form.specs.Certificate.{any_number, clause, clauses, log, Ending, ending, Label, label, labels, tables, body, Body, after_clauses, after_variables, Lower, Middle, Upper, opening, upper, certificate_from, parts_of, certificate}
 use Rattle.cert_form.specs.Parts.{passed, labels_read, tables_read, body_read, labelled_read, lower_read, KeptMiddle, middle_read, Header, header, header_read, title_read, version_read, opening_read, Kept, kept, certificate_read}
 use Rattle.cert_form.proofs.Certificate.{label_exact, label_some, clause_exact, clause_some, lined_exact, lined_some}
-use Rattle.cert_form.proofs.Kept.{and_same, kept_beside, mapped_kept, pair_second, pair_kept, words_front}
-
-map_same : {A : Type 0} (a : Answer A Token) → map_got (λ x. x) a ≡ a
-map_same (Got x r) = refl
-map_same (Stuck l) = refl
+use Rattle.cert_form.proofs.Kept.{map_same, and_same, kept_beside, mapped_kept, pair_second, pair_kept, words_front}
 
 pub body_opened : (n c q k : ℕ) (ts : List Token) → body_read n c q k ts ≡ and_then (tables_read n q k ts) (λ _ r. (pair (log n (c + 2)) (λ _. ending n)).read r)
 unfolding body_read tables_read
@@ -114,50 +110,16 @@ pub opening_split : (ts : List Token) → opening_read ts ≡ and_then (title_re
 unfolding opening_read title_read version_read
 opening_split ts = words_split (codes "oschk" ∷ (sp ∷ (codes "certificate" ∷ (sp ∷ [])))) (codes "1" ∷ (lf ∷ (codes "bounds" ∷ (sp ∷ [])))) ts
 
-words_cons : (w : Token) (ws : List Token) (ts : List Token) → (words (w ∷ ws) nothing).read ts ≡ and_then ((word w).read ts) (λ _ r. (words ws nothing).read r)
-words_cons w ws ts = words_split (w ∷ []) ws ts ∙ plain ((word w).read ts)
-  where
-    plain : (a : Answer (Unit {0}) Token) → and_then (and_then (and_then a (λ x rest. and_then (nothing.read rest) (λ y more. Got (x, y) more))) (λ (p : Unit {0} × Unit {0}) rest. Got p.1 rest)) (λ _ r. (words ws nothing).read r) ≡ and_then a (λ _ r. (words ws nothing).read r)
-    plain (Got x r) = refl
-    plain (Stuck s) = refl
-
-pub title_split : (ts : List Token) → title_read ts ≡ and_then ((word (codes "oschk")).read ts) (λ _ r. and_then ((word sp).read r) (λ _ r. and_then ((word (codes "certificate")).read r) (λ _ r. (words (sp ∷ []) nothing).read r)))
+pub title_parted : (ts : List Token) → title_read ts ≡ and_then ((words (codes "oschk" ∷ (sp ∷ [])) nothing).read ts) (λ _ r. (words (codes "certificate" ∷ (sp ∷ [])) nothing).read r)
 unfolding title_read
-title_split ts =
-    let third : List Token = codes "certificate" ∷ (sp ∷ []) in
-    words_cons (codes "oschk") (sp ∷ third) ts
-    ∙ and_same ((word (codes "oschk")).read ts) (λ _ r. (words (sp ∷ third) nothing).read r) (λ _ r. and_then ((word sp).read r) (λ _ r. and_then ((word (codes "certificate")).read r) (λ _ r. (words (sp ∷ []) nothing).read r)))
-    (λ _ r.
-    words_cons sp third r
-    ∙ and_same ((word sp).read r) (λ _ r. (words third nothing).read r) (λ _ r. and_then ((word (codes "certificate")).read r) (λ _ r. (words (sp ∷ []) nothing).read r)) (λ _ r. words_cons (codes "certificate") (sp ∷ []) r))
+title_parted ts = words_split (codes "oschk" ∷ (sp ∷ [])) (codes "certificate" ∷ (sp ∷ [])) ts
 
--- the words of the first line, one after another
-module _ (ts r s u : List Token) (one : (word (codes "oschk")).read ts ≡ Got tt r) (two : (word sp).read r ≡ Got tt s) where
-  title_from : title_read ts ≡ and_then ((word (codes "certificate")).read s) (λ _ r. (words (sp ∷ []) nothing).read r)
-  title_from =
-      let K : List Token → Answer (Unit {0}) Token = λ r. and_then ((word (codes "certificate")).read r) (λ _ r. (words (sp ∷ []) nothing).read r) in
-      title_split ts
-      ∙ ap (λ a. and_then a (λ _ r. and_then ((word sp).read r) (λ _ r. K r))) one
-      ∙ ap (λ a. and_then a (λ _ r. K r)) two
+pub title_more : (ts mid : List Token) → (words (codes "oschk" ∷ (sp ∷ [])) nothing).read ts ≡ Got tt mid → title_read ts ≡ (words (codes "certificate" ∷ (sp ∷ [])) nothing).read mid
+title_more ts mid e = title_parted ts ∙ ap (λ a. and_then a (λ _ r. (words (codes "certificate" ∷ (sp ∷ [])) nothing).read r)) e
 
-  pub title_third : (left : List Token) → (word (codes "certificate")).read s ≡ Stuck left → title_read ts ≡ Stuck left
-  title_third left e = title_from ∙ ap (λ a. and_then a (λ _ r. (words (sp ∷ []) nothing).read r)) e
-
-  module _ (three : (word (codes "certificate")).read s ≡ Got tt u) where
-    title_end : title_read ts ≡ (words (sp ∷ []) nothing).read u
-    title_end = title_from ∙ ap (λ a. and_then a (λ _ r. (words (sp ∷ []) nothing).read r)) three
-
-    pub title_last : (left : List Token) → (word sp).read u ≡ Stuck left → title_read ts ≡ Stuck left
-    title_last left e = title_end ∙ rw e refl
-
-    pub title_got : (rest : List Token) → (word sp).read u ≡ Got tt rest → title_read ts ≡ Got tt rest
-    title_got rest e = title_end ∙ rw e refl
-
-pub version_split : (ts : List Token) → version_read ts ≡ and_then ((word (codes "1")).read ts) (λ _ r. and_then ((word lf).read r) (λ _ r. (words (codes "bounds" ∷ (sp ∷ [])) nothing).read r))
+pub version_parted : (ts : List Token) → version_read ts ≡ and_then ((words (codes "1" ∷ (lf ∷ [])) nothing).read ts) (λ _ r. (words (codes "bounds" ∷ (sp ∷ [])) nothing).read r)
 unfolding version_read
-version_split ts =
-    words_cons (codes "1") (lf ∷ (codes "bounds" ∷ (sp ∷ []))) ts
-    ∙ and_same ((word (codes "1")).read ts) (λ _ r. (words (lf ∷ (codes "bounds" ∷ (sp ∷ []))) nothing).read r) (λ _ r. and_then ((word lf).read r) (λ _ r. (words (codes "bounds" ∷ (sp ∷ [])) nothing).read r)) (λ _ r. words_cons lf (codes "bounds" ∷ (sp ∷ [])) r)
+version_parted ts = words_split (codes "1" ∷ (lf ∷ [])) (codes "bounds" ∷ (sp ∷ [])) ts
 
 pair_then : {A B C : Type 0} (F : Format A Token) (G : A → Format B Token) (ts : List Token) (k : A × B → List Token → Answer C Token) → and_then ((pair F G).read ts) k ≡ and_then (F.read ts) (λ x r. and_then ((G x).read r) (λ y r. k (x, y) r))
 pair_then {A} {B} {C} F G ts k = go (F.read ts)

@@ -1,11 +1,12 @@
 -- What reading gives of the parts of which not all is kept.
-use Rattle.std.specs.Prelude.{ℕ, suc, ◌+◌, Bool, true, false, cond, nat_lt, List, [], ◌∷◌, length, Option, Some, None, codes}
+use Rattle.std.specs.Prelude.{ℕ, suc, ◌+◌, ◌-◌, Bool, true, false, cond, nat_lt, List, [], ◌∷◌, length, Option, Some, None, codes}
 use Rattle.std.specs.Str.{bytes_eq}
 use Rattle.clause_form.specs.declared.lit.Lit.{Lit}
 use Rattle.clause_form.specs.declared.line.Line.{Line}
-use Rattle.format.specs.Format.{Answer, Format, never, nothing, pair, times, until, turn, map_got}
-use Rattle.cert_form.specs.Words.{Token, sp, lf, word, words, spaced, lined, limit, number, literal, name}
-use Rattle.cert_form.specs.Certificate.{any_number, label_word, label_rest, label, depth_line, table_line, shifted_line, up_to_17, moving, tables, Ending, clause, body, labels, after_variables, opening, Certificate, certificate}
+use Rattle.format.specs.Format.{Answer, Got, Format, and_then, never, nothing, pair, times, until, turn, map_got}
+use Rattle.cert_form.specs.Words.{Token, sp, lf, word, words, behind, spaced, lined, limit, number, literal, value_token, name}
+use Rattle.cert_form.specs.Certificate.{nought, any_number, label_word, label_rest, label, depth_line, table_line, shifted_line, up_to_17, moving}
+use Rattle.cert_form.specs.Certificate.{tables, Ending, chosen, clause, body, labels, after_variables, opening, Certificate, certificate}
 
 -- nothing is kept
 abbrev pub passed : {A : Type 0} → Answer A Token → Answer (Unit {0}) Token
@@ -79,12 +80,30 @@ first_rest_read more n d ts =
 unfoldable pub first_row_read : Bool → ℕ → List Token → Answer ℕ Token
 first_row_read more n ts = map_got length ((up_to_17 (first_stop more) (first_line more n)).read ts)
 
+-- the row of T = 1 behind its front, and all rows after the first, which has m lines
+unfoldable pub second_row_read : ℕ → ℕ → List Token → Answer (Unit {0}) Token
+second_row_read n m ts = and_then (literal_read n ts) (λ _ r. row_read (codes "depth") n 1 1 (m - 1) r)
+
+unfoldable pub after_width_read : ℕ → ℕ → ℕ → List Token → Answer (Unit {0}) Token
+after_width_read n k m ts =
+    and_then ((words (sp ∷ (nought ∷ (sp ∷ []))) nothing).read ts) (λ _ r. and_then (second_row_read n m r) (λ _ r. rows_read (codes "depth") n m 2 k r))
+
 -- the depths where there are k turns and one more
 unfoldable pub moving_read : ℕ → ℕ → List Token → Answer (Unit {0}) Token
 moving_read n k ts = passed ((moving n k).read ts)
 
 unfoldable pub tables_read : ℕ → ℕ → ℕ → List Token → Answer (Unit {0}) Token
 tables_read n q k ts = passed ((tables n q k).read ts)
+
+-- ---- the end
+
+-- the values of a model to the end of their line
+unfoldable pub values_end_read : ℕ → List Token → Answer (List Bool) Token
+values_end_read n ts = (behind (times (λ v. spaced (value_token v)) 1 n) (nought ∷ (lf ∷ []))).read ts
+
+-- what stands after the verdict's word and the space, to the end
+unfoldable pub outcome_end_read : ℕ → List Token → Answer Ending Token
+outcome_end_read n ts = (behind (chosen n) (codes "end" ∷ (lf ∷ []))).read ts
 
 -- ---- the whole
 
@@ -99,6 +118,13 @@ labelled_read n c k ts = map_got (λ p. p.1.1) ((pair labels (λ ls. body n c (l
 unfoldable pub lower_read : ℕ → ℕ → ℕ → List Token → Answer (List Lit × (List Line × Ending)) Token
 lower_read n k c ts =
     map_got (λ p. (p.0, p.1.1.1)) ((words (codes "goal" ∷ (sp ∷ [])) (pair (lined (clause n)) (λ _. words (codes "labels" ∷ (sp ∷ [])) (pair labels (λ ls. body n c (length ls) k))))).read ts)
+
+-- from the word before the number of labels on, and from the goal's literals on
+unfoldable pub label_part_read : ℕ → ℕ → ℕ → List Token → Answer (List Line × Ending) Token
+label_part_read n c k ts = and_then ((words (codes "labels" ∷ (sp ∷ [])) nothing).read ts) (λ _ r. labelled_read n c k r)
+
+unfoldable pub goal_part_read : ℕ → ℕ → ℕ → List Token → Answer (List Lit × (List Line × Ending)) Token
+goal_part_read n k c ts = and_then ((lined (clause n)).read ts) (λ g r. and_then (label_part_read n c k r) (λ b r. Got (g, b) r))
 
 -- the clauses, the goal, the log and the ending
 abbrev pub KeptMiddle : Type 0
@@ -130,6 +156,18 @@ opening_read ts = (words opening nothing).read ts
 -- turns, budget and variables
 unfoldable pub header_read : List Token → Answer (ℕ × (ℕ × ℕ)) Token
 header_read ts = map_got (λ (z : Header). (z.0, (z.1.1.0, z.1.1.1.0))) (header.read ts)
+
+-- a word, a space, and a number to the end of the line
+unfoldable pub named_number_read : Token → ℕ → ℕ → List Token → Answer ℕ Token
+named_number_read w low high ts = and_then ((words (w ∷ (sp ∷ [])) nothing).read ts) (λ _ r. (lined (number low high)).read r)
+
+-- budget and variables; turns, budget and variables
+unfoldable pub sizes_read : List Token → Answer (ℕ × ℕ) Token
+sizes_read ts =
+    and_then (named_number_read (codes "budget") 0 limit ts) (λ b r. and_then (named_number_read (codes "variables") 1 limit r) (λ n r. Got (b, n) r))
+
+unfoldable pub counts_read : List Token → Answer (ℕ × (ℕ × ℕ)) Token
+counts_read ts = and_then ((spaced any_number).read ts) (λ k r. and_then ((lined any_number).read r) (λ _ r. and_then (sizes_read r) (λ s r. Got (k, s) r)))
 
 -- the budget, the number of variables and the rest
 abbrev pub Kept : Type 0

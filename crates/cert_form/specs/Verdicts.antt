@@ -7,8 +7,8 @@ use Rattle.cert_form.specs.declared.ending.Outcome.{Outcome}
 use Rattle.cert_form.specs.declared.ending.Outcome.TheVariants as outcomes
 use Rattle.cert_form.specs.Certificate as ends
 use Rattle.cert_form.specs.Certificate.{Ending, EndWord, HoldsWord, FailsWord, UndecidedWord}
-use Rattle.cert_form.specs.declared.ending.Verdict.{Verdict}
-use Rattle.cert_form.specs.declared.ending.Verdict.TheVariants.{Holds, Fails, Undecided}
+use Rattle.answers.specs.declared.verdict.Verdict.{Verdict}
+use Rattle.answers.specs.declared.verdict.Verdict.TheVariants.{Holds, Fails, Undecided}
 
 abbrev pub word_of_verdict : Verdict → EndWord
 word_of_verdict Holds = HoldsWord

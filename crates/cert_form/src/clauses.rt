@@ -1,7 +1,8 @@
 // Readers of clauses, of hints and of the lines of the log.
 ghost use Rattle.std.specs.Prelude.{◌≡◌, ◌<◌, ◌≤◌, ◌∷◌, [], false, ℕ, ◌+◌, ◌^◌, true, length, IfOk, IfSome, IfNone, min};
 ghost use Rattle.format.specs.Format.{times};
-ghost use Rattle.cert_form.specs.Words.{lined, limit};
+ghost use Rattle.format.specs.Format.{ended};
+ghost use Rattle.cert_form.specs.Words.{limit, lined, literal as literal_format, spaced, word as word_format};
 ghost use Rattle.cert_form.specs.Texts.{Gives, GivesBy};
 ghost use Rattle.cert_form.specs.Certificate.{clause as clause_format, clause_turn, hints as hints_format, hint_turn, log_line as line_format, log as log_format, log_turn};
 ghost use Rattle.clause_form.specs.Literals.{is_within, variable};
@@ -12,6 +13,23 @@ use clause_form::formula::Formula;
 use clause_form::line::{Hints, Line, Log};
 use clause_form::lit::Lit;
 use std::alloc::Global;
+
+// A literal and a space.
+fn spaced_literal(text: &[u8], above: u64, variables: u64) -> Result<(Lit, &[u8]), ReadError>
+    requires few { variables < limit }
+    requires above { above ≤ variables }
+    ensures gives { Gives (spaced (literal_format above variables)) (λ x. x.0) (λ x. x.1.now) result text.now }
+    ensures between { IfOk result (λ x. (above < variable x.0) × (variable x.0 ≤ variables)) }
+    ensures shorter { IfOk result (λ x. length x.1.now < length text.now) }
+{
+    match literal(text, above, variables) {
+        Ok((lit, rest)) => match word(rest, b" ") {
+            Ok(rest) => Ok((lit, rest)),
+            Err(fault) => Err(fault),
+        },
+        Err(fault) => Err(fault),
+    }
+}
 
 // The next literal of a clause, or none at its end.
 #[tactic(auto, using(crate::proofs::Readers::clause_turn_stop, crate::proofs::Readers::clause_turn_else))]
@@ -25,9 +43,10 @@ fn clause_item(text: &[u8], above: u64, variables: u64) -> Result<(Option<Lit>, 
     if let Some(rest) = skip(text, b"0") {
         return Ok((None, rest));
     }
-    let (lit, rest) = literal(text, above, variables)?;
-    let rest = word(rest, b" ")?;
-    Ok((Some(lit), rest))
+    match spaced_literal(text, above, variables) {
+        Ok((lit, rest)) => Ok((Some(lit), rest)),
+        Err(fault) => Err(fault),
+    }
 }
 
 #[tactic(auto, using(crate::proofs::Readers::clause_starts, crate::proofs::Readers::clause_stop, crate::proofs::Readers::clause_more, crate::proofs::Readers::last_variable_append, crate::proofs::Readers::is_within_append))]
@@ -53,19 +72,25 @@ fn clause(alloc: Global, text: &[u8], variables: u64) -> Result<(Clause, &[u8]),
     }
 }
 
-pub(crate) fn clause_line(
+// A clause and the word after it.
+pub(crate) fn clause_and<'a>(
     alloc: Global,
-    text: &[u8],
+    text: &'a [u8],
     variables: u64,
-) -> Result<(Clause, &[u8]), ReadError>
+    end: &[u8],
+) -> Result<(Clause, &'a [u8]), ReadError<'a>>
     requires { variables < limit }
-    ensures gives { Gives (lined (clause_format variables)) (λ x. x.0) (λ x. x.1.now) result text.now }
+    ensures gives { Gives (ended (clause_format variables) (word_format end.now)) (λ x. x.0) (λ x. x.1.now) result text.now }
     ensures within { IfOk result (λ x. is_within variables x.0 ≡ true) }
     ensures shorter { IfOk result (λ x. length x.1.now < length text.now) }
 {
-    let (clause, rest) = clause(alloc, text, variables)?;
-    let rest = word(rest, b"\n")?;
-    Ok((clause, rest))
+    match clause(alloc, text, variables) {
+        Ok((clause, rest)) => match word(rest, end) {
+            Ok(rest) => Ok((clause, rest)),
+            Err(fault) => Err(fault),
+        },
+        Err(fault) => Err(fault),
+    }
 }
 
 #[tactic(auto, using(crate::proofs::Readers::times_start, crate::proofs::Readers::times_more, crate::proofs::Readers::times_done))]
@@ -86,7 +111,7 @@ pub(crate) fn clauses(
     };
     let mut rest = text;
     for i in 0..count {
-        let (clause, after) = clause_line(alloc, rest, variables)?;
+        let (clause, after) = clause_and(alloc, rest, variables, b"\n")?;
         formula.push(clause)?;
         rest = after;
     }
@@ -124,17 +149,33 @@ fn hints(alloc: Global, text: &[u8], own: u64) -> Result<(Hints, &[u8]), ReadErr
     }
 }
 
+// The hints to the end of the line.
+fn last_hints(alloc: Global, text: &[u8], own: u64) -> Result<(Hints, &[u8]), ReadError>
+    ensures gives { Gives (lined (hints_format own)) (λ x. x.0) (λ x. x.1.now) result text.now }
+    ensures shorter { IfOk result (λ x. length x.1.now < length text.now) }
+{
+    match hints(alloc, text, own) {
+        Ok((hints, rest)) => match word(rest, b"\n") {
+            Ok(rest) => Ok((hints, rest)),
+            Err(fault) => Err(fault),
+        },
+        Err(fault) => Err(fault),
+    }
+}
+
 #[tactic(auto, using(crate::proofs::Readers::log_line_opened))]
 fn line(alloc: Global, text: &[u8], variables: u64, own: u64) -> Result<(Line, &[u8]), ReadError>
     requires { variables < limit }
     ensures gives { Gives (line_format variables own) (λ x. x.0) (λ x. x.1.now) result text.now }
     ensures shorter { IfOk result (λ x. length x.1.now < length text.now) }
 {
-    let (clause, rest) = clause(alloc, text, variables)?;
-    let rest = word(rest, b" ")?;
-    let (hints, rest) = hints(alloc, rest, own)?;
-    let rest = word(rest, b"\n")?;
-    Ok((Line { clause, hints }, rest))
+    match clause_and(alloc, text, variables, b" ") {
+        Ok((clause, rest)) => match last_hints(alloc, rest, own) {
+            Ok((hints, rest)) => Ok((Line { clause, hints }, rest)),
+            Err(fault) => Err(fault),
+        },
+        Err(fault) => Err(fault),
+    }
 }
 
 // The next line of the log, or none at its end.
@@ -152,8 +193,10 @@ fn log_item(
     if let Some(rest) = skip(text, b"verdict") {
         return Ok((None, rest));
     }
-    let (line, rest) = line(alloc, text, variables, own)?;
-    Ok((Some(line), rest))
+    match line(alloc, text, variables, own) {
+        Ok((line, rest)) => Ok((Some(line), rest)),
+        Err(fault) => Err(fault),
+    }
 }
 
 #[tactic(auto, using(crate::proofs::Readers::log_start, crate::proofs::Readers::log_stop, crate::proofs::Readers::log_more))]

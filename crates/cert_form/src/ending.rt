@@ -1,22 +1,17 @@
 // Readers of what stands after the log: the verdict, and the model where it fails.
 ghost use Rattle.std.specs.Prelude.{◌≡◌, ◌<◌, ◌≤◌, ◌∷◌, [], ℕ, ◌+◌, length, IfOk};
 ghost use Rattle.format.specs.Format.{times};
-ghost use Rattle.cert_form.specs.Words.{value_token, spaced, limit};
+ghost use Rattle.cert_form.specs.Words.{value_token, spaced, limit, lf, words};
 ghost use Rattle.cert_form.specs.Verdicts.{word_of_verdict, value_of, ending_of};
-ghost use Rattle.cert_form.specs.Texts.{Gives};
+ghost use Rattle.cert_form.specs.Parts.{outcome_end_read, values_end_read};
+ghost use Rattle.cert_form.specs.Texts.{Gives, GivesBy};
 ghost use Rattle.cert_form.specs.Certificate.{end_word, model as model_format, chosen, end_rest, ending as ending_format};
 
-use crate::one_token::{ReadError, is_decimal, skip, word};
+use crate::one_token::{ReadError, is_decimal, keyword, last_word, skip, word};
 use crate::splitting::split;
+use answers::verdict::Verdict;
 use clause_form::assignment::Assignment;
 use std::alloc::Global;
-
-#[derive(Clone, Copy, Debug, PartialEq, Eq)]
-pub enum Verdict {
-    Holds,
-    Fails,
-    Undecided,
-}
 
 #[tactic(auto, using(crate::proofs::Readers::end_holds, crate::proofs::Readers::end_fails, crate::proofs::Readers::end_undecided, crate::proofs::Readers::end_stuck))]
 fn read_verdict(text: &[u8]) -> Result<(Verdict, &[u8]), ReadError>
@@ -76,9 +71,13 @@ fn spaced_value(text: &[u8], variable: u64) -> Result<(bool, &[u8]), ReadError>
     ensures gives { Gives (spaced (value_token variable)) (λ x. x.0) (λ x. x.1.now) result text.now }
     ensures shorter { IfOk result (λ x. length x.1.now < length text.now) }
 {
-    let (value, rest) = value(text, variable)?;
-    let rest = word(rest, b" ")?;
-    Ok((value, rest))
+    match value(text, variable) {
+        Ok((value, rest)) => match word(rest, b" ") {
+            Ok(rest) => Ok((value, rest)),
+            Err(fault) => Err(fault),
+        },
+        Err(fault) => Err(fault),
+    }
 }
 
 // The values of all variables.
@@ -97,17 +96,44 @@ fn values(alloc: Global, text: &[u8], variables: u64) -> Result<(Assignment, &[u
     Ok((values, rest))
 }
 
-#[tactic(auto, using(crate::proofs::Readers::model_opened))]
+// The values of all variables, and the end of their line.
+#[tactic(auto, using(crate::proofs::Endings::values_end_opened))]
+fn values_end(alloc: Global, text: &[u8], variables: u64) -> Result<(Assignment, &[u8]), ReadError>
+    requires { variables < limit }
+    ensures gives { GivesBy (values_end_read variables) (λ x. x.0) (λ x. x.1.now) result text.now }
+{
+    match values(alloc, text, variables) {
+        Ok((values, rest)) => match last_word(rest, b"0") {
+            Ok(rest) => Ok((values, rest)),
+            Err(fault) => Err(fault),
+        },
+        Err(fault) => Err(fault),
+    }
+}
+
+#[tactic(auto, using(crate::proofs::Endings::model_opened))]
 fn model(alloc: Global, text: &[u8], variables: u64) -> Result<(Assignment, &[u8]), ReadError>
     requires { variables < limit }
     ensures gives { Gives (model_format variables) (λ x. x.0) (λ x. x.1.now) result text.now }
 {
-    let rest = word(text, b"model")?;
-    let rest = word(rest, b" ")?;
-    let (values, rest) = values(alloc, rest, variables)?;
-    let rest = word(rest, b"0")?;
-    let rest = word(rest, b"\n")?;
-    Ok((values, rest))
+    match keyword(text, b"model") {
+        Ok(rest) => values_end(alloc, rest, variables),
+        Err(fault) => Err(fault),
+    }
+}
+
+// The end of the verdict's line, and the model.
+fn model_after(alloc: Global, text: &[u8], variables: u64) -> Result<(Assignment, &[u8]), ReadError>
+    requires { variables < limit }
+    ensures gives { Gives (words (lf ∷ []) (model_format variables)) (λ x. x.0) (λ x. x.1.now) result text.now }
+{
+    match word(text, b"\n") {
+        Ok(rest) => match model(alloc, rest, variables) {
+            Ok((values, rest)) => Ok((values, rest)),
+            Err(fault) => Err(fault),
+        },
+        Err(fault) => Err(fault),
+    }
 }
 
 #[derive(Drop)]
@@ -128,19 +154,18 @@ fn after_verdict(
     ensures gives { Gives (end_rest variables (word_of_verdict verdict)) (λ x. ending_of x.0) (λ x. x.1.now) result text.now }
 {
     match verdict {
-        Verdict::Holds => {
-            let rest = word(text, b"\n")?;
-            Ok((Outcome::Holds, rest))
-        }
-        Verdict::Fails => {
-            let rest = word(text, b"\n")?;
-            let (values, rest) = model(alloc, rest, variables)?;
-            Ok((Outcome::Fails(values), rest))
-        }
-        Verdict::Undecided => {
-            let rest = word(text, b"\n")?;
-            Ok((Outcome::Undecided, rest))
-        }
+        Verdict::Holds => match word(text, b"\n") {
+            Ok(rest) => Ok((Outcome::Holds, rest)),
+            Err(fault) => Err(fault),
+        },
+        Verdict::Fails => match model_after(alloc, text, variables) {
+            Ok((values, rest)) => Ok((Outcome::Fails(values), rest)),
+            Err(fault) => Err(fault),
+        },
+        Verdict::Undecided => match word(text, b"\n") {
+            Ok(rest) => Ok((Outcome::Undecided, rest)),
+            Err(fault) => Err(fault),
+        },
     }
 }
 
@@ -153,13 +178,32 @@ pub(crate) fn read_outcome(
     requires { variables < limit }
     ensures gives { Gives (chosen variables) (λ x. ending_of x.0) (λ x. x.1.now) result text.now }
 {
-    let (verdict, rest) = read_verdict(text)?;
-    let (outcome, rest) = after_verdict(alloc, rest, variables, verdict)?;
-    Ok((outcome, rest))
+    match read_verdict(text) {
+        Ok((verdict, rest)) => match after_verdict(alloc, rest, variables, verdict) {
+            Ok((outcome, rest)) => Ok((outcome, rest)),
+            Err(fault) => Err(fault),
+        },
+        Err(fault) => Err(fault),
+    }
+}
+
+// The verdict's word, its model, and the last line.
+#[tactic(auto, using(crate::proofs::Endings::outcome_end_opened))]
+fn outcome_end(alloc: Global, text: &[u8], variables: u64) -> Result<(Outcome, &[u8]), ReadError>
+    requires { variables < limit }
+    ensures gives { GivesBy (outcome_end_read variables) (λ x. ending_of x.0) (λ x. x.1.now) result text.now }
+{
+    match read_outcome(alloc, text, variables) {
+        Ok((outcome, rest)) => match last_word(rest, b"end") {
+            Ok(rest) => Ok((outcome, rest)),
+            Err(fault) => Err(fault),
+        },
+        Err(fault) => Err(fault),
+    }
 }
 
 // The verdict, its model, and the last line.
-#[tactic(auto, using(crate::proofs::Readers::ending_opened))]
+#[tactic(auto, using(crate::proofs::Endings::ending_opened))]
 pub(crate) fn ending(
     alloc: Global,
     text: &[u8],
@@ -168,9 +212,8 @@ pub(crate) fn ending(
     requires { variables < limit }
     ensures gives { Gives (ending_format variables) (λ x. ending_of x.0) (λ x. x.1.now) result text.now }
 {
-    let rest = word(text, b" ")?;
-    let (outcome, rest) = read_outcome(alloc, rest, variables)?;
-    let rest = word(rest, b"end")?;
-    let rest = word(rest, b"\n")?;
-    Ok((outcome, rest))
+    match word(text, b" ") {
+        Ok(rest) => outcome_end(alloc, rest, variables),
+        Err(fault) => Err(fault),
+    }
 }

@@ -54,8 +54,7 @@ fn idle(text: &[u8]) -> Result<&[u8], ReadError>
     ensures gives { GivesBy idle_read (λ _. tt) (λ r. r.now) result text.now }
     ensures shorter { IfOk result (λ r. length r.now < length text.now) }
 {
-    let rest = word(text, b"\n")?;
-    Ok(rest)
+    word(text, b"\n")
 }
 
 // What stands after `arrive`.
@@ -64,9 +63,14 @@ fn arrive(text: &[u8]) -> Result<&[u8], ReadError>
     ensures gives { GivesBy arrive_read (λ _. tt) (λ r. r.now) result text.now }
     ensures shorter { IfOk result (λ r. length r.now < length text.now) }
 {
-    let rest = word(text, b" ")?;
-    let rest = name(rest)?;
-    word(rest, b"\n")
+    let rest = match word(text, b" ") {
+        Ok(rest) => rest,
+        Err(fault) => return Err(fault),
+    };
+    match name(rest) {
+        Ok(rest) => word(rest, b"\n"),
+        Err(fault) => Err(fault),
+    }
 }
 
 // What stands after `step`.
@@ -75,11 +79,22 @@ fn step(text: &[u8]) -> Result<&[u8], ReadError>
     ensures gives { GivesBy step_read (λ _. tt) (λ r. r.now) result text.now }
     ensures shorter { IfOk result (λ r. length r.now < length text.now) }
 {
-    let rest = word(text, b" ")?;
-    let rest = name(rest)?;
-    let rest = word(rest, b" ")?;
-    let (_, rest) = number_line(rest, 0, 1 << 63)?;
-    Ok(rest)
+    let rest = match word(text, b" ") {
+        Ok(rest) => rest,
+        Err(fault) => return Err(fault),
+    };
+    let rest = match name(rest) {
+        Ok(rest) => rest,
+        Err(fault) => return Err(fault),
+    };
+    let rest = match word(rest, b" ") {
+        Ok(rest) => rest,
+        Err(fault) => return Err(fault),
+    };
+    match number_line(rest, 0, 1 << 63) {
+        Ok((_, rest)) => Ok(rest),
+        Err(fault) => Err(fault),
+    }
 }
 
 #[tactic(auto, using(crate::proofs::LabelParts::label_idle, crate::proofs::LabelParts::label_arrive, crate::proofs::LabelParts::label_step, crate::proofs::LabelParts::label_stuck))]
@@ -109,8 +124,14 @@ pub(crate) fn front<'a>(
     ensures gives { GivesBy (words (first.now ∷ sp ∷ decimal number ∷ sp ∷ []) nothing).read (λ _. tt) (λ r. r.now) result text.now }
     ensures shorter { IfOk result (λ r. length r.now < length text.now) }
 {
-    let rest = keyword(text, first)?;
-    let rest = fixed(rest, number)?;
+    let rest = match keyword(text, first) {
+        Ok(rest) => rest,
+        Err(fault) => return Err(fault),
+    };
+    let rest = match fixed(rest, number) {
+        Ok(rest) => rest,
+        Err(fault) => return Err(fault),
+    };
     word(rest, b" ")
 }
 
@@ -120,8 +141,10 @@ fn label(text: &[u8], number: u64) -> Result<&[u8], ReadError>
     ensures gives { GivesBy (label_read number) (λ _. tt) (λ r. r.now) result text.now }
     ensures shorter { IfOk result (λ r. length r.now < length text.now) }
 {
-    let rest = front(text, b"label", number)?;
-    label_rest(rest)
+    match front(text, b"label", number) {
+        Ok(rest) => label_rest(rest),
+        Err(fault) => Err(fault),
+    }
 }
 
 #[tactic(auto, using(crate::proofs::LabelParts::labels_start, crate::proofs::LabelParts::labels_more, crate::proofs::LabelParts::labels_stuck, crate::proofs::LabelParts::labels_done))]

@@ -159,8 +159,21 @@ pub(crate) fn keyword<'a>(text: &'a [u8], keyword: &[u8]) -> Result<&'a [u8], Re
     ensures gives { Gives (words (keyword.now ∷ sp ∷ []) nothing) (λ _. tt) (λ r. r.now) result text.now }
     ensures shorter { IfOk result (λ r. length r.now < length text.now) }
 {
-    let rest = word(text, keyword)?;
-    word(rest, b" ")
+    match word(text, keyword) {
+        Ok(rest) => word(rest, b" "),
+        Err(fault) => Err(fault),
+    }
+}
+
+// A word at the end of a line.
+pub(crate) fn last_word<'a>(text: &'a [u8], last: &[u8]) -> Result<&'a [u8], ReadError<'a>>
+    ensures gives { Gives (words (last.now ∷ lf ∷ []) nothing) (λ _. tt) (λ r. r.now) result text.now }
+    ensures shorter { IfOk result (λ r. length r.now < length text.now) }
+{
+    match word(text, last) {
+        Ok(rest) => word(rest, b"\n"),
+        Err(fault) => Err(fault),
+    }
 }
 
 pub(crate) fn number_line(text: &[u8], low: u64, high: u64) -> Result<(u64, &[u8]), ReadError>
@@ -169,7 +182,11 @@ pub(crate) fn number_line(text: &[u8], low: u64, high: u64) -> Result<(u64, &[u8
     ensures within { IfOk result (λ x. (low ≤ x.0) × (x.0 < high)) }
     ensures shorter { IfOk result (λ x. length x.1.now < length text.now) }
 {
-    let (number, rest) = number(text, low, high)?;
-    let rest = word(rest, b"\n")?;
-    Ok((number, rest))
+    match number(text, low, high) {
+        Ok((number, rest)) => match word(rest, b"\n") {
+            Ok(rest) => Ok((number, rest)),
+            Err(fault) => Err(fault),
+        },
+        Err(fault) => Err(fault),
+    }
 }

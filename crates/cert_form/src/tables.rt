@@ -2,12 +2,13 @@
 ghost use Rattle.std.specs.Prelude.{◌≡◌, ◌<◌, ◌≤◌, ◌+◌, ◌-◌, ◌∷◌, [], ℕ, codes, length, true, IfOk};
 ghost use Rattle.std.specs.Fmt.{decimal};
 ghost use Rattle.format.specs.Format.{nothing};
-ghost use Rattle.cert_form.specs.Parts.{first_line_read, first_row_read, first_stop, first_turn, line_read, literal_read, moving_read, row_read, rows_read, tables_read};
+ghost use Rattle.cert_form.specs.Parts.{after_width_read, first_line_read, first_row_read, first_stop, first_turn, line_read, literal_read, moving_read, row_read, rows_read, second_row_read, tables_read};
 ghost use Rattle.cert_form.specs.Texts.{GivesBy};
-ghost use Rattle.cert_form.specs.Words.{limit};
+ghost use Rattle.cert_form.specs.Certificate.{nought};
+ghost use Rattle.cert_form.specs.Words.{limit, sp, words};
 
 use crate::labels::front;
-use crate::one_token::{ReadError, fixed, keyword, literal, skip, word};
+use crate::one_token::{ReadError, fixed, keyword, last_word, literal, skip, word};
 
 // A literal to the end of the line.
 #[tactic(auto, using(crate::proofs::TableParts::literal_opened))]
@@ -16,8 +17,10 @@ fn literal_line(text: &[u8], variables: u64) -> Result<&[u8], ReadError>
     ensures gives { GivesBy (literal_read variables) (λ _. tt) (λ r. r.now) result text.now }
     ensures shorter { IfOk result (λ r. length r.now < length text.now) }
 {
-    let (_, rest) = literal(text, 0, variables)?;
-    word(rest, b"\n")
+    match literal(text, 0, variables) {
+        Ok((_, rest)) => word(rest, b"\n"),
+        Err(fault) => Err(fault),
+    }
 }
 
 // A line of a table: its word, its two numbers and a literal.
@@ -35,10 +38,18 @@ fn line<'a>(
     ensures gives { GivesBy (line_read table.now variables turn number) (λ _. tt) (λ r. r.now) result text.now }
     ensures shorter { IfOk result (λ r. length r.now < length text.now) }
 {
-    let rest = front(text, table, turn)?;
-    let rest = fixed(rest, number)?;
-    let rest = word(rest, b" ")?;
-    literal_line(rest, variables)
+    let rest = match front(text, table, turn) {
+        Ok(rest) => rest,
+        Err(fault) => return Err(fault),
+    };
+    let rest = match fixed(rest, number) {
+        Ok(rest) => rest,
+        Err(fault) => return Err(fault),
+    };
+    match word(rest, b" ") {
+        Ok(rest) => literal_line(rest, variables),
+        Err(fault) => Err(fault),
+    }
 }
 
 // So many lines of one turn.
@@ -95,9 +106,14 @@ fn shifted_line(text: &[u8], variables: u64, number: u64) -> Result<&[u8], ReadE
     ensures gives { GivesBy (first_line_read true variables number) (λ _. tt) (λ r. r.now) result text.now }
     ensures shorter { IfOk result (λ r. length r.now < length text.now) }
 {
-    let rest = front(text, b"0", number)?;
-    let rest = literal_line(rest, variables)?;
-    keyword(rest, b"depth")
+    let rest = match front(text, b"0", number) {
+        Ok(rest) => rest,
+        Err(fault) => return Err(fault),
+    };
+    match literal_line(rest, variables) {
+        Ok(rest) => keyword(rest, b"depth"),
+        Err(fault) => Err(fault),
+    }
 }
 
 #[tactic(auto, using(crate::proofs::TableParts::first_line_alone))]
@@ -140,8 +156,10 @@ fn first_item(
     if number >= 17 {
         return Err(ReadError::At(text));
     }
-    let rest = first_line(text, more, variables, number)?;
-    Ok((true, rest))
+    match first_line(text, more, variables, number) {
+        Ok(rest) => Ok((true, rest)),
+        Err(fault) => Err(fault),
+    }
 }
 
 // How many lines the first row has, and what follows them and the token that stops.
@@ -165,6 +183,51 @@ fn first_row(text: &[u8], more: bool, variables: u64) -> Result<(u64, &[u8]), Re
     }
 }
 
+// The front of the row of T = 1, of which the first word was read.
+fn second_front(text: &[u8]) -> Result<&[u8], ReadError>
+    ensures gives { GivesBy (words (sp ∷ nought ∷ sp ∷ []) nothing).read (λ _. tt) (λ r. r.now) result text.now }
+    ensures shorter { IfOk result (λ r. length r.now < length text.now) }
+{
+    match word(text, b" ") {
+        Ok(rest) => keyword(rest, b"0"),
+        Err(fault) => Err(fault),
+    }
+}
+
+// The row of T = 1 behind its front.
+#[tactic(auto, using(crate::proofs::TableParts::second_row_opened))]
+fn second_row(text: &[u8], variables: u64, width: u64) -> Result<&[u8], ReadError>
+    requires few { variables < limit }
+    requires width { (1 ≤ width) × (width ≤ limit) }
+    ensures gives { GivesBy (second_row_read variables width) (λ _. tt) (λ r. r.now) result text.now }
+    ensures shorter { IfOk result (λ r. length r.now < length text.now) }
+{
+    match literal_line(text, variables) {
+        Ok(rest) => row(rest, b"depth", variables, 1, 1, width - 1),
+        Err(fault) => Err(fault),
+    }
+}
+
+// The rows after the first, each as wide as that.
+#[tactic(auto, using(crate::proofs::TableParts::after_width_split))]
+fn after_width(text: &[u8], variables: u64, width: u64, turns: u64) -> Result<&[u8], ReadError>
+    requires few { variables < limit }
+    requires width { (1 ≤ width) × (width ≤ limit) }
+    requires some { 1 ≤ turns }
+    requires last { turns < limit }
+    ensures gives { GivesBy (after_width_read variables (turns - 1) width) (λ _. tt) (λ r. r.now) result text.now }
+    ensures shorter { IfOk result (λ r. length r.now < length text.now) }
+{
+    let rest = match second_front(text) {
+        Ok(rest) => rest,
+        Err(fault) => return Err(fault),
+    };
+    match second_row(rest, variables, width) {
+        Ok(rest) => rows(rest, b"depth", variables, width, 2, turns - 1),
+        Err(fault) => Err(fault),
+    }
+}
+
 // The depths where there are turns: the rows from 0 to their number.
 #[tactic(auto, using(crate::proofs::TableParts::moving_opened))]
 fn moving(text: &[u8], variables: u64, turns: u64) -> Result<&[u8], ReadError>
@@ -175,13 +238,14 @@ fn moving(text: &[u8], variables: u64, turns: u64) -> Result<&[u8], ReadError>
     ensures gives { GivesBy (moving_read variables (turns - 1)) (λ _. tt) (λ r. r.now) result text.now }
     ensures shorter { IfOk result (λ r. length r.now < length text.now) }
 {
-    let rest = keyword(text, b"depth")?;
-    let (width, rest) = first_row(rest, true, variables)?;
-    let rest = word(rest, b" ")?;
-    let rest = keyword(rest, b"0")?;
-    let rest = literal_line(rest, variables)?;
-    let rest = row(rest, b"depth", variables, 1, 1, width - 1)?;
-    rows(rest, b"depth", variables, width, 2, turns - 1)
+    let rest = match keyword(text, b"depth") {
+        Ok(rest) => rest,
+        Err(fault) => return Err(fault),
+    };
+    match first_row(rest, true, variables) {
+        Ok((width, rest)) => after_width(rest, variables, width, turns),
+        Err(fault) => Err(fault),
+    }
 }
 
 // The depths, the turns, and the line `log`.
@@ -200,11 +264,17 @@ pub(crate) fn tables(
     ensures shorter { IfOk result (λ r. length r.now < length text.now) }
 {
     if turns == 0 {
-        let (_, rest) = first_row(text, false, variables)?;
-        return word(rest, b"\n");
+        return match first_row(text, false, variables) {
+            Ok((_, rest)) => word(rest, b"\n"),
+            Err(fault) => Err(fault),
+        };
     }
-    let rest = moving(text, variables, turns)?;
-    let rest = rows(rest, b"turn", variables, labels, 1, turns)?;
-    let rest = word(rest, b"log")?;
-    word(rest, b"\n")
+    let rest = match moving(text, variables, turns) {
+        Ok(rest) => rest,
+        Err(fault) => return Err(fault),
+    };
+    match rows(rest, b"turn", variables, labels, 1, turns) {
+        Ok(rest) => last_word(rest, b"log"),
+        Err(fault) => Err(fault),
+    }
 }

@@ -17,8 +17,8 @@ use Rattle.proof_check.specs.Certs.{verdict_of, model_of}
 use Rattle.proof_check.specs.Checks.{first_bad, fits, answer_by, answer_of}
 use Rattle.proof_check.specs.declared.cert.Cert.{Cert}
 use Rattle.proof_check.specs.declared.check.CertAnswer.TheVariants.{Good, BadVerdict}
-use Rattle.turn_unroll.specs.declared.encoding.Encoding.{Encoding}
-use Rattle.turn_unroll.specs.Encodings.{encoding_of}
+use Rattle.turn_encoding.specs.declared.encoding.Encoding.{Encoding}
+use Rattle.turn_encoding.specs.Encodings.{encoding_of}
 
 -- no line is bad where each is derived
 pub none_bad : (number n : ℕ) (cs : List (List Lit)) (log : List Line) → AreDerived n cs log → first_bad number n cs log ≡ None

@@ -1,15 +1,12 @@
 -- The certificate of an encoding that depicts an application, and of a log of derived lines, has the bounds, counts and orders of one.
-use Rattle.std.proofs.Common.{◌≡◌, ℕ, suc, ◌+◌, ◌-◌, ◌<◌, ◌≤◌, ◌^◌, Bool, true, false, ◌&&◌, ◌==◌, nat_lt, nat_le, Option, Some, None, List, [], ◌∷◌, ◌++◌, map, length, length-append, if◌then◌else◌, refl, sym, ap, subst, ◌∙◌, arith, codes}
+use Rattle.std.proofs.Common.{◌≡◌, ℕ, suc, ◌+◌, ◌-◌, ◌<◌, ◌≤◌, ◌^◌, Bool, true, false, ◌&&◌, ◌==◌, nat_lt, nat_le, Option, Some, None, List, [], ◌∷◌, ◌++◌, map, length, length-append, if◌then◌else◌, refl, sym, subst, arith, codes}
 use Rattle.std.proofs.lemmas.Bool.{and_parts, and_from, eq-eqb, le-leb, lt-ltb, true≢false}
 use Rattle.std.proofs.lemmas.Bool.Decides.{nat_tests}
 use Rattle.std.proofs.lemmas.List.{length-map}
 use Rattle.std.proofs.lemmas.Option.{slice_get_within}
 use Rattle.std.specs.Fmt.{decimal}
 use Rattle.std.specs.List.{slice_get}
-use Rattle.std.specs.Prelude.{unwrap_or}
-use Rattle.app_model.specs.declared.app.App.{App}
-use Rattle.app_model.specs.declared.app.Task.{Task}
-use Rattle.app_model.specs.declared.app.Routine.{Routine}
+use Rattle.application.specs.declared.app.App.{App}
 use Rattle.bounded_check.specs.declared.decide.Verdict.{Verdict}
 use Rattle.bounded_check.specs.declared.decide.Verdict.TheVariants as verdict
 use Rattle.bounded_check.specs.Depicts.{AreNamed}
@@ -29,14 +26,14 @@ use Rattle.clause_form.specs.declared.lit.Lit.{Lit}
 use Rattle.clause_form.specs.declared.line.Line.{Line}
 use Rattle.clause_form.specs.DerivedLine.{AreDerived, clause_at, closes, follow, is_empty, option_unfalse}
 use Rattle.clause_form.specs.Literals.{AreOf, are_within, is_within, negation, rises_above}
-use Rattle.name_law.specs.Names.{AreNames, entity_names}
 use Rattle.one_stack.specs.declared.label.Label.{Label}
 use Rattle.step_ir.specs.declared.code.Code.{Code}
 use Rattle.step_ir.specs.Setting.{setting_of}
 use Rattle.turn_law.specs.Description.{AreRowsWithin}
-use Rattle.turn_unroll.specs.declared.encoding.Encoding.{Encoding}
-use Rattle.turn_unroll.specs.Encodings.{encoding_of}
-use Rattle.turn_unroll.specs.Grids.{AreWide, HasFewer}
+use Rattle.turn_encoding.specs.declared.encoding.Encoding.{Encoding}
+use Rattle.turn_encoding.specs.Encodings.{encoding_of}
+use Rattle.turn_encoding.specs.Grids.{AreWide, HasFewer}
+use Rattle.cert_law.specs.Named.{HaveNames}
 
 -- a number that a text can have
 small : (n : ℕ) → n < limit → is_small n ≡ true
@@ -71,12 +68,6 @@ columns_few width (row ∷ rows) some w h = omega (arith, w.0, h 0 row refl)
 
 -- ---- labels
 
--- each of the names is a name
-name_at : (names : List (List ℕ)) (k : ℕ) → AreNames names → k < length names → is_name (unwrap_or (slice_get names k) []) ≡ true
-name_at [] k a h = absurd (omega (arith, h))
-name_at (x ∷ xs) Prim.Native.Nat.zero a h = a.0
-name_at (x ∷ xs) (suc k) a h = name_at xs k a.1 (omega (arith, h))
-
 -- a label of a name, whether it arrives or not
 named_label : (b : Bool) (name : List ℕ) (point : ℕ) → is_name name ≡ true → point < 2 ^ 16 → is_label (label_of (if b then kinds.Arrive name else kinds.Step name point)) ≡ true
 named_label true name point named few = named
@@ -87,19 +78,12 @@ label_is : (app : App) (label : Label) → is_name (entity_name app label.entity
 label_is app label named few = named_label label.arrives (entity_name app label.entity.0) label.point named few
 
 -- the labels of entities that have names
-labels_are : (app : App) (labels : List Label) → AreNames (entity_names app) → AreNamed (length (entity_names app)) labels → ArePoints labels → are_labels (map label_of (map (text_of app) labels)) ≡ true
+labels_are : (app : App) (labels : List Label) → HaveNames app → AreNamed (length app.tasks + length app.routines) labels → ArePoints labels → are_labels (map label_of (map (text_of app) labels)) ≡ true
 labels_are app [] names n p = refl
 labels_are app (label ∷ labels) names n p =
     and_from (is_label (label_of (text_of app label))) (are_labels (map label_of (map (text_of app) labels)))
-    (label_is app label (name_at (entity_names app) label.entity.0 names n.0) p.0)
+    (label_is app label (names label.entity.0 n.0) p.0)
     (labels_are app labels names n.1 p.1)
-
--- the entities have a name each
-names_count : (app : App) → length (entity_names app) ≡ length app.tasks + length app.routines
-names_count app =
-    length-append (map (λ (t : Task). t.name) app.tasks) (map (λ (r : Routine). r.name) app.routines)
-    ∙ ap (λ (k : ℕ). k + length (map (λ (r : Routine). r.name) app.routines)) (length-map app.tasks (λ (t : Task). t.name))
-    ∙ ap (λ (k : ℕ). length app.tasks + k) (length-map app.routines (λ (r : Routine). r.name))
 
 -- a label more, for the padding
 texts_count : (app : App) (labels : List Label) → length (map label_of (texts_of app labels)) ≡ length labels + 1
@@ -240,7 +224,7 @@ ending_is e labels budget log verdict.Undecided d = refl
 
 -- the certificate is one by its bounds, counts and orders
 pub certificate_is : (app : App) (code : Code) (bounds : Bounds) (e : Encoding) (labels : List Label) (log : List Line) (v : Verdict)
-    → AreNames (entity_names app) → 1 ≤ bounds.turns → bounds.turns ≤ 512 → bounds.arrivals ≤ 15 → bounds.budget ≤ 10 ^ 12
+    → HaveNames app → 1 ≤ bounds.turns → bounds.turns ≤ 512 → bounds.arrivals ≤ 15 → bounds.budget ≤ 10 ^ 12
     → IsEvidence app code bounds e labels log v → length (text_with app bounds e labels log (ending_by v)) ≤ 2 ^ 30
     → is_certificate (certificate_of bounds e (texts_of app labels) log (ending_by v)) ≡ true
 certificate_is app code bounds e labels log v names least most arrivals budget evidence short =
@@ -260,7 +244,6 @@ certificate_is app code bounds e labels log v names least most arrivals budget e
     let high = lt-ltb n limit few in
     let rows : length e.alternatives ≡ bounds.turns = shape.alternatives in
     let labelled : length labels + 1 < 2 ^ 32 = columns_few (length labels + 1) e.alternatives (omega (arith, rows, least)) shape.alternatives_wide e.labels in
-    let named : AreNamed (length (entity_names app)) labels = subst (λ (k : ℕ). AreNamed k labels) (sym (names_count app)) depicts.named in
     let own : length cs + 2 ≡ length (with_goal (encoding_of e)) + 1 = number_behind cs e.goal in
     let E = are_lines n (length cs + 2) log && is_ending n (ending_by v) in
     let Y = (length e.alternatives == bounds.turns) && are_rows n (length texts) e.alternatives in
@@ -275,7 +258,7 @@ certificate_is app code bounds e labels log v names least most arrivals budget e
     and_from (length e.alternatives == bounds.turns) (are_rows n (length texts) e.alternatives) (eq-eqb (length e.alternatives) bounds.turns rows)
     (subst (λ (m : ℕ). are_rows n m e.alternatives ≡ true) (sym count) (rows_are n (length labels + 1) e.alternatives shape.alternatives_wide depicts.alternatives_within)) in
     let tables : D ≡ true = and_from (are_depths n bounds.turns e.depths) Y depths turns in
-    let labels_good : are_labels texts ≡ true = labels_are app labels names named evidence.encodes.points in
+    let labels_good : are_labels texts ≡ true = labels_are app labels names depicts.named evidence.encodes.points in
     let lower : L ≡ true =
     and_from (is_small (length texts) && are_labels texts) (D && E) (and_from (is_small (length texts)) (are_labels texts) (small (length texts) (omega (arith, count, labelled))) labels_good) (and_from D E tables ends) in
     let goal : G ≡ true = and_from (is_clause_over n e.goal) L (and_from (rises_above 0 e.goal) (is_within n e.goal) depicts.rises (is_within-from n e.goal depicts.goal_within)) lower in

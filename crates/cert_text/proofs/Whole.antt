@@ -8,7 +8,7 @@ use Rattle.cert_form.specs.Words.{Token, sp, lf, literal_token}
 use Rattle.cert_form.specs.Certificate.{Label, Ending, Holds, Fails, Undecided}
 use Rattle.cert_form.specs.CertificateText.{certificate_words, literals_text, numbers_text, clauses_text, label_end, labels_text, row_text, rows_text, log_text, model_text, ending_text, lower_text, numbered}
 use Rattle.cert_form.specs.Texts.{concat}
-use Rattle.turn_unroll.specs.declared.encoding.Encoding.{Encoding}
+use Rattle.turn_encoding.specs.declared.encoding.Encoding.{Encoding}
 use Rattle.cert_text.specs.declared.front.Bounds.{Bounds}
 use Rattle.cert_text.specs.declared.label.LabelText.{LabelText}
 use Rattle.cert_text.specs.declared.label.LabelText.TheVariants as l

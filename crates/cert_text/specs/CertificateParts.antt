@@ -4,7 +4,7 @@ use Rattle.cert_form.specs.Certificate as c
 use Rattle.clause_form.specs.declared.formula.Formula.{Formula}
 use Rattle.clause_form.specs.declared.lit.Lit.{Lit}
 use Rattle.clause_form.specs.declared.line.Line.{Line}
-use Rattle.turn_unroll.specs.declared.encoding.Encoding.{Encoding}
+use Rattle.turn_encoding.specs.declared.encoding.Encoding.{Encoding}
 use Rattle.cert_text.specs.declared.front.Bounds.{Bounds}
 use Rattle.cert_text.specs.declared.label.LabelText.{LabelText}
 use Rattle.cert_text.specs.Parts.{parts_from, numbered, pair_line, clause_text, clause_line, label_line, log_part, table_lines, value_text}

@@ -5,7 +5,7 @@ use Rattle.cert_form.specs.Certificate as c
 use Rattle.cert_form.specs.Certificate.{Certificate}
 use Rattle.cert_form.specs.CertificateText.{certificate_words}
 use Rattle.cert_form.specs.Texts.{concat}
-use Rattle.turn_unroll.specs.declared.encoding.Encoding.{Encoding}
+use Rattle.turn_encoding.specs.declared.encoding.Encoding.{Encoding}
 use Rattle.cert_text.specs.declared.front.Bounds.{Bounds}
 use Rattle.cert_text.specs.declared.label.LabelText.{LabelText}
 use Rattle.cert_text.specs.declared.label.LabelText.TheVariants as l

@@ -12,7 +12,7 @@ use chk_base::text::Text;
 use clause_form::clause::Clause;
 use clause_form::formula::Formula;
 use std::alloc::{AllocError, Global};
-use turn_unroll::encoding::Encoding;
+use turn_encoding::encoding::Encoding;
 
 /// The bounds of a run: its events, its arrivals, and the lines that the solver may learn.
 #[derive(Clone, Copy, PartialEq, Eq, Debug)]

@@ -5,7 +5,7 @@ ghost use Rattle.chk_base.specs.declared.desk.PutFault.{PutFault};
 ghost use Rattle.chk_base.specs.declared.desk.PutFault.TheVariants.{Memory};
 ghost use Rattle.cert_form.specs.Certificate.{Ending};
 ghost use Rattle.clause_form.specs.declared.line.Line.{Line};
-ghost use Rattle.turn_unroll.specs.declared.encoding.Encoding.{Encoding};
+ghost use Rattle.turn_encoding.specs.declared.encoding.Encoding.{Encoding};
 ghost use Rattle.cert_text.specs.declared.front.Bounds.{Bounds};
 ghost use Rattle.cert_text.specs.declared.label.LabelText.{LabelText};
 ghost use Rattle.cert_text.specs.CertificateParts.{front_text, rest_text};

@@ -2,7 +2,7 @@
 use Rattle.std.proofs.Common.{◌≡◌, ℕ, ◌≤◌, List, [], ◌++◌, length, take, sym, ap, subst, ◌∙◌}
 use Rattle.std.proofs.lemmas.List.{append-nil}
 use Rattle.std.specs.Prelude.{Ok, Err, IsSome, option_map}
-use Rattle.app_model.specs.declared.app.App.{App}
+use Rattle.application.specs.declared.app.App.{App}
 use Rattle.bounded_check.specs.declared.decide.Verdict.{Verdict}
 use Rattle.bounded_check.specs.Depicts.{Depicts}
 use Rattle.bounded_check.specs.Verdicts.{Means}
@@ -21,9 +21,8 @@ use Rattle.step_ir.specs.declared.code.Code.{Code}
 use Rattle.step_ir.specs.Points.{start_bits}
 use Rattle.step_ir.specs.PointStep.{behaviour_of}
 use Rattle.step_ir.specs.Setting.{setting_of}
-use Rattle.turn_unroll.specs.declared.encoding.Encoding.{Encoding}
-use Rattle.turn_unroll.specs.Encodings.{encoding_of}
-use Rattle.turn_unroll.specs.Unrolls.{HasShape}
+use Rattle.turn_encoding.specs.declared.encoding.Encoding.{Encoding}
+use Rattle.turn_encoding.specs.Encodings.{encoding_of, HasShape}
 
 -- front and rest are the text of the certificate
 abbrev pub AreWhole : Type 0

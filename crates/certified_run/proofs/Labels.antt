@@ -1,7 +1,7 @@
 -- What labels stand for and their points, one label after another.
 use Rattle.std.proofs.Common.{◌≡◌, ℕ, ◌+◌, ◌<◌, ◌^◌, List, [], ◌∷◌, ◌++◌, length, take, map, get_or, sym, ap, subst, ◌∙◌}
 use Rattle.std.proofs.lemmas.List.{map-append, take_more}
-use Rattle.app_model.specs.declared.app.App.{App}
+use Rattle.application.specs.declared.app.App.{App}
 use Rattle.cert_text.specs.declared.label.LabelText.{LabelText}
 use Rattle.cert_text.specs.declared.label.LabelText.TheVariants.{Idle}
 use Rattle.certified_run.specs.Names.{ArePoints, text_of}

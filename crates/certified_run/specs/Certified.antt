@@ -1,6 +1,6 @@
 -- A certificate of an application's run, and what of it is appended to a file.
 use Rattle.std.specs.Prelude.{◌≡◌, ℕ, ◌≤◌, if◌then◌else◌, List, length, take, Some, Result, IfOk, OnErr, option_map}
-use Rattle.app_model.specs.declared.app.App.{App}
+use Rattle.application.specs.declared.app.App.{App}
 use Rattle.bounded_check.specs.declared.decide.Verdict.{Verdict}
 use Rattle.bounded_check.specs.declared.decide.Verdict.TheVariants as verdict
 use Rattle.bounded_check.specs.Depicts.{Depicts}
@@ -20,9 +20,8 @@ use Rattle.step_ir.specs.declared.code.Code.{Code}
 use Rattle.step_ir.specs.Points.{start_bits}
 use Rattle.step_ir.specs.PointStep.{behaviour_of}
 use Rattle.step_ir.specs.Setting.{setting_of}
-use Rattle.turn_unroll.specs.declared.encoding.Encoding.{Encoding}
-use Rattle.turn_unroll.specs.Encodings.{encoding_of}
-use Rattle.turn_unroll.specs.Unrolls.{HasShape}
+use Rattle.turn_encoding.specs.declared.encoding.Encoding.{Encoding}
+use Rattle.turn_encoding.specs.Encodings.{encoding_of, HasShape}
 
 -- how the certificate of a verdict ends
 abbrev pub ending_by : Verdict → c.Ending

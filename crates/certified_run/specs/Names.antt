@@ -1,6 +1,6 @@
 -- Names of entities, and what labels stand for.
 use Rattle.std.specs.Prelude.{ℕ, ◌<◌, ◌^◌, List, [], ◌∷◌, ◌++◌, if◌then◌else◌, map, slice_get, unwrap_or}
-use Rattle.app_model.specs.declared.app.App.{App}
+use Rattle.application.specs.declared.app.App.{App}
 use Rattle.cert_text.specs.declared.label.LabelText.{LabelText}
 use Rattle.cert_text.specs.declared.label.LabelText.TheVariants.{Idle, Arrive, Step}
 use Rattle.one_stack.specs.declared.label.Label.{Label}

@@ -1,6 +1,6 @@
 // Deciding and writing.
 ghost use Rattle.std.specs.Prelude.{◌≡◌, ◌≤◌, ◌^◌, true, IfOk, IsSome};
-ghost use Rattle.app_model.specs.InOrder.{IsInOrder};
+ghost use Rattle.application.specs.InOrder.{IsInOrder};
 ghost use Rattle.bounded_check.specs.Verdicts.{Means};
 ghost use Rattle.cert_text.specs.CertificateText.{ending_of};
 ghost use Rattle.certified_run.specs.Certified.{IsCertified, ending_by};
@@ -8,7 +8,7 @@ ghost use Rattle.one_stack.specs.TaskForm.{is_task_form};
 ghost use Rattle.step_ir.specs.Fits.{Fits};
 
 use crate::names::label_texts;
-use app_model::app::App;
+use application::app::App;
 use bounded_check::decide::{Decided, Verdict, decide};
 use bounded_check::encode::encode;
 use cert_text::front::{Bounds, write_front};

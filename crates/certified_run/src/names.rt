@@ -2,7 +2,7 @@
 ghost use Rattle.std.specs.Prelude.{◌≡◌, ◌<◌, ◌^◌, IfOk, OnOk};
 ghost use Rattle.certified_run.specs.Names.{ArePoints, entity_name, text_of, texts_of};
 
-use app_model::app::{App, Entity};
+use application::app::{App, Entity};
 use cert_text::label::{LabelText, LabelTexts};
 use chk_base::text::Text;
 use one_stack::label::Label;

@@ -1,6 +1,6 @@
 -- Permitted choices are never refused.
 use Rattle.std.proofs.Common.{◌≡◌, ℕ, List, [], ◌∷◌, ◌++◌, Option, Some, None, refl, sym, ap, ◌∙◌}
-use Rattle.app_model.specs.declared.app.App.{App}
+use Rattle.application.specs.declared.app.App.{App}
 use Rattle.bounded_check.specs.Verdicts.{IsFailing}
 use Rattle.osek_machine.specs.declared.machine.StateView.{StateView}
 use Rattle.osek_machine.specs.Steps.{start_of}

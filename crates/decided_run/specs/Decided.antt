@@ -1,6 +1,6 @@
 -- What is decided of a run of an application, and how.
 use Rattle.std.specs.Prelude.{◌≡◌, ◌≢◌, ℕ, ◌≤◌, ◌⊎◌, true, false, List, length, Some, Ok}
-use Rattle.app_model.specs.declared.app.App.{App}
+use Rattle.application.specs.declared.app.App.{App}
 use Rattle.bounded_check.specs.declared.decide.Verdict.{Verdict}
 use Rattle.bounded_check.specs.declared.decide.Verdict.TheVariants as verdict
 use Rattle.bounded_check.specs.Verdicts.{NoneFails}

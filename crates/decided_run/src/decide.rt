@@ -1,7 +1,7 @@
 // Runs are decided.
 ghost use Rattle.std.specs.Prelude.{◌≡◌, ◌≢◌, ◌≤◌, ◌^◌, IfOk, IfErr, true};
 ghost use Rattle.one_run.specs.OneRun.{TakesNoInput};
-ghost use Rattle.app_model.specs.InOrder.{IsInOrder};
+ghost use Rattle.application.specs.InOrder.{IsInOrder};
 ghost use Rattle.bounded_check.specs.Verdicts.{IsFailing, Means};
 ghost use Rattle.one_stack.specs.TaskForm.{is_task_form};
 ghost use Rattle.step_ir.specs.Fits.{Fits};
@@ -9,7 +9,7 @@ ghost use Rattle.decided_run.specs.Decided.{DecisionMeans, IsByClauses, IsDecide
 ghost use Rattle.decided_run.specs.declared.decision.Decision.TheVariants as decision;
 
 use crate::decision::{Decision, Failing};
-use app_model::app::App;
+use application::app::App;
 use bounded_check::decide::Verdict;
 use bounded_check::form::is_task_form;
 use cert_text::front::Bounds;
@@ -19,11 +19,10 @@ use chk_base::text::Text;
 use one_run::inputs::takes_no_input;
 use one_run::run::{one_run, steps};
 use replay::run::{ReplayFault, replay};
-use report::reports::Replayed;
 use std::alloc::{AllocError, Global};
 use step_ir::code::Code;
 use step_ir::event::Choices;
-use step_ir::law::same_traces_of_codes;
+use trace_law::law::same_traces_of_codes;
 
 // The failing run of choices that fail.
 fn failing_run(
@@ -42,13 +41,7 @@ fn failing_run(
 {
     same_traces_of_codes();
     match replay(alloc, app, code, &choices) {
-        Ok(done) => Ok(Failing {
-            replayed: Replayed {
-                events: done.events,
-                failure: done.failure,
-            },
-            choices,
-        }),
+        Ok(replayed) => Ok(Failing { replayed, choices }),
         // They are permitted.
         Err(ReplayFault::NotPermitted { .. }) => unreachable!(),
         Err(ReplayFault::Memory) => Err(AllocError),

@@ -1,5 +1,5 @@
 // What is decided of a run.
-use report::reports::Replayed;
+use replay::run::Replayed;
 use step_ir::event::Choices;
 
 /// A schedule that fails: its events, with the failure that the last of them is, and its choices.

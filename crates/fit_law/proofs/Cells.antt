@@ -13,9 +13,9 @@ use Rattle.step_ir.specs.declared.code.Code.{Code}
 use Rattle.step_ir.specs.declared.code.EntityCode.{EntityCode}
 use Rattle.step_ir.specs.Fits.{point_count}
 use Rattle.step_ir.specs.Points.{plain_of, points_of, points_in, own_cells, cells_of, first_cell, start_word}
-use Rattle.c_types.specs.declared.typed.GlobalVar.{GlobalVar}
-use Rattle.c_types.specs.declared.typed.Local.{Local}
-use Rattle.c_types.specs.Plain.{PlainFunction, PlainEntity, PlainUnit}
+use Rattle.typed_unit.specs.declared.typed.GlobalVar.{GlobalVar}
+use Rattle.typed_unit.specs.declared.typed.Local.{Local}
+use Rattle.typed_unit.specs.Plain.{PlainFunction, PlainEntity, PlainUnit}
 use Rattle.lower_law.specs.Counts.{Thing, call_depth, things_in, if_body, entity_points, entity_reads, point_total}
 use Rattle.lower_law.specs.Layout.{or_none, element_names, variable_names, global_names, local_names, called_names, call_names, value_names, if_some, function_names, body_names, entity_names, cells_before, names_before, layout, cell_width}
 use Rattle.lower_law.specs.Statements.{CellFunction, room_all, rooms_to}

@@ -4,7 +4,7 @@ use Rattle.std.specs.Prelude.{slice_get}
 use Rattle.std.proofs.lemmas.Bool.Decides.{nat_tests}
 use Rattle.std.proofs.lemmas.List.{length-map}
 use Rattle.std.proofs.lemmas.Option.{slice_get_within}
-use Rattle.app_model.specs.declared.app.App.{App}
+use Rattle.application.specs.declared.app.App.{App}
 use Rattle.chk_base.specs.Operators.{truth}
 use Rattle.chk_base.specs.Term.{Term}
 use Rattle.chk_base.specs.WordValue.{word_at}
@@ -13,7 +13,7 @@ use Rattle.step_ir.specs.declared.code.EntityCode.{EntityCode}
 use Rattle.step_ir.specs.Fits.{Fits, AreNextsFit, IsPointFit, bit_count}
 use Rattle.step_ir.specs.Points.{PlainPoint, plain_of, points_of, points_in, first_cell, start_word}
 use Rattle.step_ir.specs.PointStep.{val, first, or_zero}
-use Rattle.c_types.specs.Plain.{PlainFunction, PlainEntity, PlainUnit}
+use Rattle.typed_unit.specs.Plain.{PlainFunction, PlainEntity, PlainUnit}
 use Rattle.lower_law.specs.Counts.{call_depth, things_in, function_points, entity_points, if_body, point_total, bit_total}
 use Rattle.lower_law.specs.Exact.{FitsEntity, exchanged, first_position}
 use Rattle.lower_law.specs.FitsBody.{FitsTo}

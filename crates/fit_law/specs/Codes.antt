@@ -4,7 +4,7 @@ use Rattle.step_ir.specs.declared.code.CellName.{CellName}
 use Rattle.step_ir.specs.declared.code.Code.{Code}
 use Rattle.step_ir.specs.declared.code.EntityCode.{EntityCode}
 use Rattle.step_ir.specs.Points.{PlainPoint, points_in}
-use Rattle.c_types.specs.Plain.{PlainUnit}
+use Rattle.typed_unit.specs.Plain.{PlainUnit}
 use Rattle.lower_law.specs.Counts.{call_depth}
 use Rattle.lower_law.specs.Exact.{exchanged, first_position}
 use Rattle.lower_law.specs.Layout.{cell_width, entity_names, global_names, layout, lowered_points}

@@ -1,9 +1,9 @@
 // Codes of typed units fit.
 ghost use Rattle.std.specs.Prelude.{◌≡◌, ℕ, ◌+◌, ◌<◌, ◌≤◌, length};
-ghost use Rattle.app_model.specs.declared.app.App.{App};
+ghost use Rattle.application.specs.declared.app.App.{App};
 ghost use Rattle.step_ir.specs.declared.code.Code.{Code};
 ghost use Rattle.step_ir.specs.Fits.{Fits};
-ghost use Rattle.c_types.specs.Plain.{PlainUnit};
+ghost use Rattle.typed_unit.specs.Plain.{PlainUnit};
 ghost use Rattle.lower_law.specs.Counts.{bit_total, point_total};
 ghost use Rattle.scope_law.specs.Right.{HasBody};
 ghost use Rattle.scope_law.specs.Serving.{AreServing};

@@ -3,10 +3,10 @@ use Rattle.std.proofs.Common.{◌≡◌, ℕ, zero, suc, ◌+◌, ◌-◌, ◌<�
 use Rattle.std.specs.Prelude.{slice_get, remove}
 use Rattle.std.proofs.lemmas.List.{map-append, take_all, take_more}
 use Rattle.step_ir.specs.declared.code.EntityCode.{EntityCode}
-use Rattle.c_types.specs.declared.typed.GlobalVar.{GlobalVar}
-use Rattle.c_types.specs.declared.typed.TypedFunction.{TypedFunction}
-use Rattle.c_types.specs.Plain.{PlainFunction, PlainUnit}
-use Rattle.c_types.specs.Views as typed
+use Rattle.typed_unit.specs.declared.typed.GlobalVar.{GlobalVar}
+use Rattle.typed_unit.specs.declared.typed.TypedFunction.{TypedFunction}
+use Rattle.typed_unit.specs.Plain.{PlainFunction, PlainUnit}
+use Rattle.typed_unit.specs.Views as typed
 use Rattle.lower_law.specs.Translated.{function}
 use Rattle.lower_pieces.specs.declared.tree.FunctionTree.{FunctionTree}
 use Rattle.lower_pieces.specs.Trees.{function_of}

@@ -4,19 +4,19 @@ use Rattle.std.specs.Prelude.{fold}
 use Rattle.std.specs.List.{flat_map, position, position_or_len}
 use Rattle.std.specs.Str.{bytes_eq}
 use Rattle.std.proofs.lemmas.Bool.Decides.{nat_tests}
-use Rattle.app_model.specs.declared.app.App.{App}
-use Rattle.app_model.specs.declared.app.Entity.{Entity}
-use Rattle.app_model.specs.InOrder.{IsInOrder}
-use Rattle.c_parse.specs.declared.unit.Declaration.{Declaration}
-use Rattle.c_parse.specs.declared.unit.EntityKind.{EntityKind}
-use Rattle.c_parse.specs.declared.unit.EntityKind.TheVariants as kinds
-use Rattle.c_parse.specs.declared.unit.External.{External}
-use Rattle.c_parse.specs.declared.unit.External.TheVariants as e
-use Rattle.c_parse.specs.declared.unit.Unit.{Unit as WrittenUnit}
+use Rattle.application.specs.declared.app.App.{App}
+use Rattle.application.specs.declared.app.Entity.{Entity}
+use Rattle.application.specs.InOrder.{IsInOrder}
+use Rattle.c_unit.specs.declared.unit.Declaration.{Declaration}
+use Rattle.c_unit.specs.declared.unit.EntityKind.{EntityKind}
+use Rattle.c_unit.specs.declared.unit.EntityKind.TheVariants as kinds
+use Rattle.c_unit.specs.declared.unit.External.{External}
+use Rattle.c_unit.specs.declared.unit.External.TheVariants as e
+use Rattle.c_unit.specs.declared.unit.Unit.{Unit as WrittenUnit}
 use Rattle.c_rules.specs.Files.{Known, known_of, nothing_of, with_external, with_variable}
 use Rattle.c_rules.specs.Meanings.{task_named}
-use Rattle.c_types.specs.Plain.{PlainEntity, PlainUnit}
-use Rattle.c_types.specs.Typed.{Fits, entity_in, entity_named, entity_of, typed}
+use Rattle.typed_unit.specs.Plain.{PlainEntity, PlainUnit}
+use Rattle.typed_unit.specs.Typed.{Fits, entity_in, entity_named, entity_of, typed}
 use Rattle.lower_law.specs.Translated.{entity_body, is_entity}
 
 -- the number of an entity, where there is one, is below this one

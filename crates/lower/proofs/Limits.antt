@@ -2,8 +2,8 @@
 use Rattle.std.proofs.Common.{◌≡◌, ℕ, zero, suc, ◌+◌, ◌<◌, ◌≤◌, ◌^◌, Bool, true, false, if◌then◌else◌, nat_lt, List, [], ◌∷◌, length, Option, Some, None, refl, sym, ap, ◌∙◌, subst, arith}
 use Rattle.std.specs.Prelude.{slice_get}
 use Rattle.std.proofs.lemmas.Bool.Decides.{nat_tests}
-use Rattle.c_types.specs.declared.typed.Taker.{Taker}
-use Rattle.c_types.specs.Plain.{PlainExpr, PlainFunction, PlainEntity, PlainUnit}
+use Rattle.typed_unit.specs.declared.typed.Taker.{Taker}
+use Rattle.typed_unit.specs.Plain.{PlainExpr, PlainFunction, PlainEntity, PlainUnit}
 use Rattle.lower_law.specs.Counts.{bit_total, call_depth, if_body, sum_below}
 use Rattle.lower_law.specs.Scoped.{IsBody, IsCallTo, IsFunction}
 use Rattle.lower_law.specs.Translated.{cell_count, entity_body, is_entity}

@@ -6,7 +6,7 @@ use Rattle.chk_base.specs.declared.word.Width.TheVariants.{W32}
 use Rattle.step_ir.specs.declared.code.EntityCode.{EntityCode}
 use Rattle.step_ir.specs.Points.{PlainPoint, plain_of}
 use Rattle.step_ir.specs.PointStep.{first, or_zero}
-use Rattle.c_types.specs.Plain.{PlainEntity, PlainUnit}
+use Rattle.typed_unit.specs.Plain.{PlainEntity, PlainUnit}
 use Rattle.lower_law.specs.Counts.{call_depth, things_in, function_points, entity_points}
 use Rattle.lower_law.specs.Exact.{FitsEntity, exchanged}
 use Rattle.lower_law.specs.Layout.{cell_width, layout, lowered_points}

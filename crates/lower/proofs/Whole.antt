@@ -2,8 +2,8 @@
 use Rattle.std.proofs.Common.{◌≡◌, ℕ, zero, suc, ◌+◌, ◌-◌, ◌<◌, ◌≤◌, List, [], ◌∷◌, ◌++◌, length, map, Some, None, option_map, refl, sym, ap, ◌∙◌, subst, arith, add-zero}
 use Rattle.std.specs.Prelude.{slice_get}
 use Rattle.std.proofs.lemmas.Option.{slice_get_past}
-use Rattle.app_model.specs.declared.app.App.{App}
-use Rattle.app_model.specs.InOrder.{IsInOrder}
+use Rattle.application.specs.declared.app.App.{App}
+use Rattle.application.specs.InOrder.{IsInOrder}
 use Rattle.chk_base.specs.declared.word.Width.{Width}
 use Rattle.chk_base.specs.Widths.{PlainWord}
 use Rattle.chk_base.specs.WordValue.{word_at}
@@ -13,10 +13,10 @@ use Rattle.step_ir.specs.declared.code.EntityCode.{EntityCode}
 use Rattle.step_ir.specs.Fits.{Fits}
 use Rattle.step_ir.specs.Points.{PlainPoint, own_cells, plain_of, points_in, points_of, start_bits, start_word, width_in}
 use Rattle.step_ir.specs.PointStep.{behaviour_of, first, or_zero, program_of, val}
-use Rattle.c_types.specs.declared.typed.TypedUnit.{TypedUnit}
-use Rattle.c_types.specs.Plain.{PlainUnit}
-use Rattle.c_types.specs.Views.{unit_of}
-use Rattle.c_types.specs.Typed as typed
+use Rattle.typed_unit.specs.declared.typed.TypedUnit.{TypedUnit}
+use Rattle.typed_unit.specs.Plain.{PlainUnit}
+use Rattle.typed_unit.specs.Views.{unit_of}
+use Rattle.typed_unit.specs.Typed as typed
 use Rattle.lower_law.specs.Counts.{bit_total, call_depth, saturated, weight_total}
 use Rattle.lower_law.specs.Exact.{AreLowered, FitsEntity, HasSameEvents, IsExact, IsLowered, SharesGlobals, exchanged}
 use Rattle.lower_law.specs.FitsBody.{FitsFun, FitsTo}

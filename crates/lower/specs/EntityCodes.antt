@@ -2,7 +2,7 @@
 use Rattle.std.specs.Prelude.{◌≡◌, ℕ, zero, suc, List, [], ◌∷◌, ◌++◌, map, Option, Some, None, slice_get}
 use Rattle.step_ir.specs.declared.code.EntityCode.{EntityCode}
 use Rattle.step_ir.specs.Points.{PlainPoint, plain_of}
-use Rattle.c_types.specs.Plain.{PlainUnit}
+use Rattle.typed_unit.specs.Plain.{PlainUnit}
 use Rattle.lower_law.specs.Exact.{exchanged}
 use Rattle.lower_law.specs.Layout.{entity_names, lowered_points}
 use Rattle.fit_law.specs.Codes.{IsExchanged, first_point}

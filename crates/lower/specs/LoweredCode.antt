@@ -1,13 +1,13 @@
 -- What a checked unit is lowered to for an application, and why it is refused.
 use Rattle.std.specs.Prelude.{◌≡◌, ℕ, ◌+◌, ◌<◌, ◌≤◌, length, map}
-use Rattle.app_model.specs.declared.app.App.{App}
+use Rattle.application.specs.declared.app.App.{App}
 use Rattle.chk_base.specs.WordValue.{word_at}
 use Rattle.step_ir.specs.declared.code.Code.{Code}
 use Rattle.step_ir.specs.EntityStep.{Behaviour}
 use Rattle.step_ir.specs.Fits.{Fits}
 use Rattle.step_ir.specs.Points.{start_bits, start_word}
 use Rattle.step_ir.specs.PointStep.{Bits, behaviour_of, program_of}
-use Rattle.c_types.specs.Plain.{PlainUnit}
+use Rattle.typed_unit.specs.Plain.{PlainUnit}
 use Rattle.lower_law.specs.Counts.{bit_total, call_depth, point_total, saturated, weight_total}
 use Rattle.lower_law.specs.EntityStep.{Working, of_unit}
 use Rattle.lower_law.specs.Exact.{HasSameEvents, IsExact, SharesGlobals}

@@ -2,8 +2,8 @@
 use Rattle.std.specs.Prelude.{◌≡◌, ℕ, ◌<◌, ◌≤◌, ◌^◌, zero, suc, List, [], ◌∷◌, length, map}
 use Rattle.step_ir.specs.Points.{PlainPoint}
 use Rattle.step_ir.specs.PointStep.{first, or_zero}
-use Rattle.c_types.specs.declared.typed.GlobalVar.{GlobalVar}
-use Rattle.c_types.specs.Plain.{PlainFunction, PlainEntity, PlainUnit}
+use Rattle.typed_unit.specs.declared.typed.GlobalVar.{GlobalVar}
+use Rattle.typed_unit.specs.Plain.{PlainFunction, PlainEntity, PlainUnit}
 use Rattle.lower_law.specs.Counts.{bit_total, point_total}
 use Rattle.lower_law.specs.Exact.{exchanged}
 use Rattle.lower_law.specs.Lowered.{outer}

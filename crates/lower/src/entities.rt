@@ -1,6 +1,6 @@
 // The code of each entity: its cells, and its points with every call expanded at its place.
 ghost use Rattle.std.specs.Prelude.{◌≡◌, ◌<◌, Some, IfOk, length, map};
-ghost use Rattle.c_types.specs.Views.{entity_of, unit_of};
+ghost use Rattle.typed_unit.specs.Views.{entity_of, unit_of};
 ghost use Rattle.step_ir.specs.Points.{plain_of};
 ghost use Rattle.lower_law.specs.Translated.{entity, entity_body};
 ghost use Rattle.fit_law.specs.Codes.{IsExchanged};
@@ -12,7 +12,6 @@ ghost use Rattle.lower.specs.Ready.{AreTrees, IsPlaced, IsReady, tree_first, tre
 
 use crate::copies::reordered;
 use crate::starts::first_running;
-use c_types::typed::{TypedEntity, TypedUnit};
 use lower_code::entity::entities_are_expanded;
 use lower_code::expansion::{Expansion, entity_entry, entity_points};
 use lower_code::functions::entity;
@@ -22,6 +21,7 @@ use lower_pieces::tree::FunctionTree;
 use sqlite_items::Items;
 use std::alloc::{AllocError, Global};
 use step_ir::code::{EntityCode, EntityCodes, Points};
+use typed_unit::typed::{TypedEntity, TypedUnit};
 use unit_counts::cells::EntityCells;
 use unit_counts::counts::body_of;
 

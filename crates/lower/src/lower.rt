@@ -1,7 +1,7 @@
 // Checked units become codes.
 ghost use Rattle.std.specs.Prelude.{◌≡◌, IfOk, IfErr};
-ghost use Rattle.app_model.specs.InOrder.{IsInOrder};
-ghost use Rattle.c_types.specs.Views.{unit_of};
+ghost use Rattle.application.specs.InOrder.{IsInOrder};
+ghost use Rattle.typed_unit.specs.Views.{unit_of};
 ghost use Rattle.static_rules.specs.Checked.{Fits};
 ghost use Rattle.fit_law.specs.Codes.{IsCodeOf};
 ghost use Rattle.lower.specs.LoweredCode.{IsLowered, IsRefusal};
@@ -9,8 +9,7 @@ ghost use Rattle.lower.specs.Ready.{IsReady};
 
 use crate::entities::Lowering;
 use crate::trees::{function_names, function_trees};
-use app_model::app::App;
-use c_types::typed::TypedUnit;
+use application::app::App;
 use fit_law::law::codes_fit;
 use lower_code::tables::tables;
 use lower_law::law::{lowering_is_exact, schedules_are_the_same, units_fit_their_cells};
@@ -18,6 +17,7 @@ use scope_law::law::{bodies_are_right, names_are_right, services_are_right, vari
 use static_rules::check::Checked;
 use std::alloc::{AllocError, Global};
 use step_ir::code::Code;
+use typed_unit::typed::TypedUnit;
 use unit_counts::cells::{UnitCells, cells_of};
 use unit_counts::counts::counts_of;
 

@@ -1,15 +1,15 @@
 // The functions of a unit over cells, and their names.
 ghost use Rattle.std.specs.Prelude.{◌≡◌, ◌<◌, ◌^◌, IfOk, map};
-ghost use Rattle.c_types.specs.Views as typed;
+ghost use Rattle.typed_unit.specs.Views as typed;
 ghost use Rattle.lower_law.specs.Translated.{cell_count, function};
 ghost use Rattle.lower_pieces.specs.Trees.{function_of};
 ghost use Rattle.lower.specs.Ready.{AreSmall};
 
-use c_types::typed::{GlobalVar, TypedFunction};
 use lower_code::functions::function;
 use lower_pieces::tree::FunctionTree;
 use std::alloc::{AllocError, Global};
 use step_ir::code::Names;
+use typed_unit::typed::{GlobalVar, TypedFunction};
 
 // The functions over cells.
 pub(crate) fn function_trees(

@@ -4,19 +4,19 @@ use Rattle.std.specs.Prelude.{map, option_map}
 use Rattle.std.specs.Prelude as prelude
 use Rattle.std.proofs.lemmas.List.{drop_all, drop_more, take_more, take_all, map-append}
 use Rattle.chk_base.specs.declared.place.Place.{Place}
-use Rattle.c_types.specs.declared.typed.CType.{CType}
-use Rattle.c_types.specs.declared.typed.GlobalVar.{GlobalVar}
-use Rattle.c_types.specs.declared.typed.Local.{Local}
-use Rattle.c_types.specs.declared.typed.TypedBranch.{TypedBranch, out-TypedBranch, fold_out-TypedBranch}
-use Rattle.c_types.specs.declared.typed.TypedExpr.{TypedExpr}
-use Rattle.c_types.specs.declared.typed.TypedStatement.{TypedStatement, fold-roll-TypedStatement}
-use Rattle.c_types.specs.declared.typed.TypedStatement.TheOpen.{TypedStatement-F}
-use Rattle.c_types.specs.declared.typed.TypedStatement.TheVariants as s
-use Rattle.c_types.specs.declared.typed.TypedStatement.TheVariants.{rolls-If, rolls-While, rolls-For, rolls-Block}
-use Rattle.c_types.specs.Plain as plain
-use Rattle.c_types.specs.Plain.{PlainStatement, PlainBlock}
-use Rattle.c_types.specs.Views.{PlainBranch, chained, branched, block_or_none, statement_layer, branch_layer, branch_of, expr_of, block_of}
-use Rattle.c_types.specs.Views as typed
+use Rattle.typed_unit.specs.declared.typed.CType.{CType}
+use Rattle.typed_unit.specs.declared.typed.GlobalVar.{GlobalVar}
+use Rattle.typed_unit.specs.declared.typed.Local.{Local}
+use Rattle.typed_unit.specs.declared.typed.TypedBranch.{TypedBranch, out-TypedBranch, fold_out-TypedBranch}
+use Rattle.typed_unit.specs.declared.typed.TypedExpr.{TypedExpr}
+use Rattle.typed_unit.specs.declared.typed.TypedStatement.{TypedStatement, fold-roll-TypedStatement}
+use Rattle.typed_unit.specs.declared.typed.TypedStatement.TheOpen.{TypedStatement-F}
+use Rattle.typed_unit.specs.declared.typed.TypedStatement.TheVariants as s
+use Rattle.typed_unit.specs.declared.typed.TypedStatement.TheVariants.{rolls-If, rolls-While, rolls-For, rolls-Block}
+use Rattle.typed_unit.specs.Plain as plain
+use Rattle.typed_unit.specs.Plain.{PlainStatement, PlainBlock}
+use Rattle.typed_unit.specs.Views.{PlainBranch, chained, branched, block_or_none, statement_layer, branch_layer, branch_of, expr_of, block_of}
+use Rattle.typed_unit.specs.Views as typed
 use Rattle.lower_pieces.specs.declared.tree.StatementTree.{StatementTree}
 use Rattle.lower_pieces.specs.Trees as tree
 use Rattle.lower_law.specs.Statements.{CellStatement, Loop, Block, CellBlock, Nil, Cons, block}

@@ -3,12 +3,12 @@ use Rattle.std.proofs.Common.{◌≡◌, ℕ, ◌<◌, ◌≤◌, Bool, true, fa
 use Rattle.std.specs.Prelude.{map, option_map, nat_lt, IsTrue}
 use Rattle.std.proofs.lemmas.Bool.{ltb-true}
 use Rattle.std.proofs.lemmas.Bool.Decides.{nat_tests}
-use Rattle.c_types.specs.declared.typed.CType.{CType}
-use Rattle.c_types.specs.declared.typed.GlobalVar.{GlobalVar}
-use Rattle.c_types.specs.declared.typed.Local.{Local}
-use Rattle.c_types.specs.declared.typed.Taker.{Taker}
-use Rattle.c_types.specs.Plain.{PlainExpr, PlainStatement, PlainBlock, NoStatement, StatementThen}
-use Rattle.c_types.specs.Plain as p
+use Rattle.typed_unit.specs.declared.typed.CType.{CType}
+use Rattle.typed_unit.specs.declared.typed.GlobalVar.{GlobalVar}
+use Rattle.typed_unit.specs.declared.typed.Local.{Local}
+use Rattle.typed_unit.specs.declared.typed.Taker.{Taker}
+use Rattle.typed_unit.specs.Plain.{PlainExpr, PlainStatement, PlainBlock, NoStatement, StatementThen}
+use Rattle.typed_unit.specs.Plain as p
 use Rattle.lower_law.specs.FitsBody.{learn}
 use Rattle.lower_law.specs.Scoped.{IsScoped, AreScoped, IfScoped, IsTaker, learn_taken, known_behind, known_in, StatementScoped, BlockScoped}
 use Rattle.lower_law.specs.Statements.{CellBlock, Loop, Nil, Cons}

@@ -1,9 +1,9 @@
 -- Branches over cells, and bounds on the numbers in statements.
 use Rattle.std.specs.Prelude.{ℕ, ◌<◌, List, [], ◌∷◌, Option, Some, None}
 use Rattle.chk_base.specs.declared.place.Place.{Place}
-use Rattle.c_types.specs.declared.typed.GlobalVar.{GlobalVar}
-use Rattle.c_types.specs.declared.typed.Local.{Local}
-use Rattle.c_types.specs.Views.{PlainBranch}
+use Rattle.typed_unit.specs.declared.typed.GlobalVar.{GlobalVar}
+use Rattle.typed_unit.specs.declared.typed.Local.{Local}
+use Rattle.typed_unit.specs.Views.{PlainBranch}
 use Rattle.lower_law.specs.Statements.{CellStatement, Set, Write, WriteAt, If, Loop, Assert, Input, Call, Return, Serve, Block, CellBlock, Nil, Cons}
 use Rattle.lower_law.specs.Translated.{expr, statements}
 use Rattle.lower_law.specs.Typed.{CType, CellExpr}

@@ -1,14 +1,14 @@
 // Functions and the bodies of entities over cells.
 ghost use Rattle.std.specs.Prelude.{◌≡◌, ◌<◌, ◌^◌, IfOk, length, map, take};
-ghost use Rattle.c_types.specs.Views as typed;
+ghost use Rattle.typed_unit.specs.Views as typed;
 ghost use Rattle.lower_law.specs.Translated.{cell_count, is_some, function, entity, statements};
 ghost use Rattle.lower_pieces.specs.Trees.{function_of};
 ghost use Rattle.lower_code.specs.Chains.{AllNumbersBelow};
 
 use crate::statements::statement_block;
-use c_types::typed::{CType, GlobalVar, Local, TypedEntity, TypedFunction};
 use lower_pieces::tree::FunctionTree;
 use std::alloc::{AllocError, Global};
+use typed_unit::typed::{CType, GlobalVar, Local, TypedEntity, TypedFunction};
 
 // The types of the first locals.
 #[tactic(auto, using(crate::proofs::Chained::types_more, crate::proofs::Chained::types_end))]

@@ -1,9 +1,9 @@
 // The numbers of statements over cells.
 ghost use Rattle.std.specs.Prelude.{ℕ, ◌<◌, ◌≤◌, List, Option, length, nat_lt};
-ghost use Rattle.c_types.specs.Plain.{PlainBlock};
-ghost use Rattle.c_types.specs.declared.typed.CType.{CType};
-ghost use Rattle.c_types.specs.declared.typed.GlobalVar.{GlobalVar};
-ghost use Rattle.c_types.specs.declared.typed.Local.{Local};
+ghost use Rattle.typed_unit.specs.Plain.{PlainBlock};
+ghost use Rattle.typed_unit.specs.declared.typed.CType.{CType};
+ghost use Rattle.typed_unit.specs.declared.typed.GlobalVar.{GlobalVar};
+ghost use Rattle.typed_unit.specs.declared.typed.Local.{Local};
 ghost use Rattle.lower_law.specs.Scoped.{BlockScoped};
 ghost use Rattle.lower_law.specs.Translated.{statements};
 ghost use Rattle.lower_code.specs.Chains.{AllNumbersBelow};

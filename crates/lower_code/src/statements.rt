@@ -1,19 +1,19 @@
 // Typed statements over cells.
 ghost use Rattle.std.specs.Prelude.{◌≡◌, ◌<◌, ◌^◌, ◌≤◌, IfOk, OnOk, length, drop, map, option_map, ◌∷◌, []};
-ghost use Rattle.c_types.specs.Views as typed;
-ghost use Rattle.c_types.specs.Views.{expr_of};
+ghost use Rattle.typed_unit.specs.Views as typed;
+ghost use Rattle.typed_unit.specs.Views.{expr_of};
 ghost use Rattle.lower_law.specs.Statements.{block};
 ghost use Rattle.lower_law.specs.Translated.{cell_count, local_type, expr, condition, taken, statement, statements};
 ghost use Rattle.lower_code.specs.Chains.{NumbersBelow, AllNumbersBelow, IfNumbers, ArgumentsBelow, TakenUnder, branch_cells, chained_cells, branched_cells, BranchesBelow};
 ghost use Rattle.lower_pieces.specs.Trees.{tree_of, takes_of, statement_of};
 ghost use Rattle.lower_pieces.specs.Within.{LocalsBelow};
 
-use c_types::typed::{CType, GlobalVar, Local, Taker, TypedBranch, TypedExpr, TypedStatement};
 use chk_base::place::Place;
 use chk_base::word::Width;
 use lower_pieces::translation::{expression, global_cell, global_type};
 use lower_pieces::tree::{ExpressionTree, StatementTree, Takes};
 use std::alloc::{AllocError, Global};
+use typed_unit::typed::{CType, GlobalVar, Local, Taker, TypedBranch, TypedExpr, TypedStatement};
 
 /// The type that a local was declared with. It takes no memory.
 pub fn local_type(locals: &[Local], l: usize) -> CType

@@ -4,9 +4,9 @@ use Rattle.std.specs.Prelude.{slice_get}
 use Rattle.chk_base.specs.Widths.{bits_of}
 use Rattle.step_ir.specs.declared.code.CellName.{CellName}
 use Rattle.step_ir.specs.Fits.{bit_count}
-use Rattle.c_types.specs.declared.typed.GlobalVar.{GlobalVar}
-use Rattle.c_types.specs.declared.typed.Local.{Local}
-use Rattle.c_types.specs.Plain.{PlainFunction, PlainEntity, PlainUnit}
+use Rattle.typed_unit.specs.declared.typed.GlobalVar.{GlobalVar}
+use Rattle.typed_unit.specs.declared.typed.Local.{Local}
+use Rattle.typed_unit.specs.Plain.{PlainFunction, PlainEntity, PlainUnit}
 use Rattle.lower_law.specs.Counts.{Thing, call_depth, things_in, called, call_bits, local_bits, if_function, function_points, function_bits, entity_points, entity_reads, entity_bits, sum_of, global_bits, if_body, bit_total}
 use Rattle.lower_law.specs.Exact.{exchanged, first_position}
 use Rattle.lower_law.specs.Layout.{element_names, variable_names, global_names, local_names, called_names, call_names, value_names, if_some, function_names, body_names, entity_names, names_before, layout, cell_width, lowered_points}

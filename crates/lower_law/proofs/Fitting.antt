@@ -2,10 +2,10 @@
 use Rattle.std.proofs.Common.{◌≡◌, ℕ, zero, suc, ◌+◌, ◌≤◌, nat_lt, List, [], ◌∷◌, ◌++◌, length, take, Option, Some, None, refl, sym, ap, ◌∙◌, subst, arith, length-append}
 use Rattle.std.specs.Prelude.{map, option_map, slice_get}
 use Rattle.chk_base.specs.declared.word.Width.{Width}
-use Rattle.c_types.specs.declared.typed.CType.{CType}
-use Rattle.c_types.specs.declared.typed.Local.{Local}
-use Rattle.c_types.specs.declared.typed.Taker.{Taker}
-use Rattle.c_types.specs.Plain.{PlainExpr, PlainFunction, PlainEntity, PlainUnit}
+use Rattle.typed_unit.specs.declared.typed.CType.{CType}
+use Rattle.typed_unit.specs.declared.typed.Local.{Local}
+use Rattle.typed_unit.specs.declared.typed.Taker.{Taker}
+use Rattle.typed_unit.specs.Plain.{PlainExpr, PlainFunction, PlainEntity, PlainUnit}
 use Rattle.lower_law.specs.Counts.{call_depth, things_in, most_reads, function_reads, if_function}
 use Rattle.lower_law.specs.FitsBody.{FitsBl, FitsFun, FitsTo, Takes}
 use Rattle.lower_law.specs.Layout.{call_names, local_names, global_names, function_names, if_some}

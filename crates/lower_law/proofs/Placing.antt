@@ -4,12 +4,12 @@ use Rattle.std.specs.Prelude.{map, option_map, slice_get}
 use Rattle.chk_base.specs.declared.word.Width.{Width}
 use Rattle.chk_base.specs.declared.word.Width.TheVariants.{W32}
 use Rattle.step_ir.specs.declared.code.CellName.{CellName}
-use Rattle.c_expression.specs.declared.expression.BinaryOperator.{BinaryOperator}
-use Rattle.c_expression.specs.declared.expression.BinaryOperator.TheVariants.{LogicalAnd, LogicalOr}
-use Rattle.c_types.specs.declared.typed.GlobalVar.{GlobalVar}
-use Rattle.c_types.specs.declared.typed.Local.{Local}
-use Rattle.c_types.specs.Plain.{PlainExpr, PlainStatement, PlainBlock, NoStatement, StatementThen, PlainFunction, PlainEntity, PlainUnit}
-use Rattle.c_types.specs.Plain as p
+use Rattle.c_unit.specs.declared.expression.BinaryOperator.{BinaryOperator}
+use Rattle.c_unit.specs.declared.expression.BinaryOperator.TheVariants.{LogicalAnd, LogicalOr}
+use Rattle.typed_unit.specs.declared.typed.GlobalVar.{GlobalVar}
+use Rattle.typed_unit.specs.declared.typed.Local.{Local}
+use Rattle.typed_unit.specs.Plain.{PlainExpr, PlainStatement, PlainBlock, NoStatement, StatementThen, PlainFunction, PlainEntity, PlainUnit}
+use Rattle.typed_unit.specs.Plain as p
 use Rattle.lower_law.specs.Counts.{Thing, most_reads}
 use Rattle.lower_law.specs.FitsBody.{FitsEx, FitsAll, HaveWidths}
 use Rattle.lower_law.specs.Layout.{called_names, call_names, local_names, global_names, variable_names, element_names}

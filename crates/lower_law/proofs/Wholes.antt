@@ -5,7 +5,7 @@ use Rattle.chk_base.specs.declared.word.Width.{Width}
 use Rattle.chk_base.specs.WordValue.{word_at}
 use Rattle.step_ir.specs.declared.code.CellName.{CellName}
 use Rattle.step_ir.specs.Points.{start_word}
-use Rattle.c_types.specs.Plain.{PlainEntity, PlainUnit}
+use Rattle.typed_unit.specs.Plain.{PlainEntity, PlainUnit}
 use Rattle.lower_law.specs.Counts.{call_depth, things_in, entity_reads}
 use Rattle.lower_law.specs.Exact.{FitsEntity}
 use Rattle.lower_law.specs.FitsBody.{FitsFun, FitsTo}

@@ -1,13 +1,13 @@
 -- The counts of a typed unit: points, cells and weight, as sums over what its bodies do, every call being expanded at its place.
 use Rattle.std.specs.Prelude.{ℕ, zero, suc, ◌+◌, ◌*◌, ◌-◌, ◌^◌, max, min, List, [], ◌∷◌, ◌++◌, Option, Some, None, slice_get}
 use Rattle.chk_base.specs.Widths.{bits_of}
-use Rattle.c_expression.specs.declared.expression.BinaryOperator.{BinaryOperator}
-use Rattle.c_expression.specs.declared.expression.BinaryOperator.TheVariants as op
-use Rattle.c_types.specs.declared.typed.CType.{CType}
-use Rattle.c_types.specs.declared.typed.GlobalVar.{GlobalVar}
-use Rattle.c_types.specs.declared.typed.Local.{Local}
-use Rattle.c_types.specs.Plain.{PlainExpr, PlainStatement, PlainBlock, NoStatement, StatementThen, PlainFunction, PlainEntity, PlainUnit}
-use Rattle.c_types.specs.Plain as p
+use Rattle.c_unit.specs.declared.expression.BinaryOperator.{BinaryOperator}
+use Rattle.c_unit.specs.declared.expression.BinaryOperator.TheVariants as op
+use Rattle.typed_unit.specs.declared.typed.CType.{CType}
+use Rattle.typed_unit.specs.declared.typed.GlobalVar.{GlobalVar}
+use Rattle.typed_unit.specs.declared.typed.Local.{Local}
+use Rattle.typed_unit.specs.Plain.{PlainExpr, PlainStatement, PlainBlock, NoStatement, StatementThen, PlainFunction, PlainEntity, PlainUnit}
+use Rattle.typed_unit.specs.Plain as p
 use Rattle.lower_law.specs.Translated.{elements, entity_body}
 
 -- no chain of calls is longer, by rule S11

@@ -5,9 +5,9 @@ use Rattle.chk_base.specs.declared.word.Width.TheVariants.{W32}
 use Rattle.chk_base.specs.WordValue.{word_at}
 use Rattle.step_ir.specs.declared.code.CellName.{CellName}
 use Rattle.step_ir.specs.Points.{PlainPoint, start_word}
-use Rattle.c_types.specs.declared.typed.GlobalVar.{GlobalVar}
-use Rattle.c_types.specs.declared.typed.Local.{Local}
-use Rattle.c_types.specs.Plain.{PlainEntity, PlainUnit}
+use Rattle.typed_unit.specs.declared.typed.GlobalVar.{GlobalVar}
+use Rattle.typed_unit.specs.declared.typed.Local.{Local}
+use Rattle.typed_unit.specs.Plain.{PlainEntity, PlainUnit}
 use Rattle.lower_law.specs.Counts.{Thing, call_depth, things_in, entity_reads}
 use Rattle.lower_law.specs.Exact.{Layout, exchanged, first_position}
 use Rattle.lower_law.specs.Lowered.{points_of_entity}

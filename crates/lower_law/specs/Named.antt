@@ -1,6 +1,6 @@
 -- The lengths of arrays.
 use Rattle.std.specs.Prelude.{◌≡◌, ℕ, Option, Some, None}
-use Rattle.c_types.specs.declared.typed.GlobalVar.{GlobalVar}
+use Rattle.typed_unit.specs.declared.typed.GlobalVar.{GlobalVar}
 
 -- the array with this number has this length
 abbrev pub IsLength : Option GlobalVar → ℕ → Type 0

@@ -1,10 +1,10 @@
 -- What is known of the names in a typed unit without a broken rule: each means something that there is, and a local is read only after it was set.
 use Rattle.std.specs.Prelude.{◌≡◌, ℕ, zero, suc, ◌<◌, ◌≤◌, Bool, true, false, nat_lt, List, [], ◌∷◌, length, Option, Some, None, slice_get, IsTrue}
-use Rattle.c_types.specs.declared.typed.CType.{CType}
-use Rattle.c_types.specs.declared.typed.GlobalVar.{GlobalVar}
-use Rattle.c_types.specs.declared.typed.Taker.{Taker}
-use Rattle.c_types.specs.Plain.{PlainExpr, PlainStatement, PlainBlock, NoStatement, StatementThen, PlainFunction, PlainEntity, PlainUnit}
-use Rattle.c_types.specs.Plain as p
+use Rattle.typed_unit.specs.declared.typed.CType.{CType}
+use Rattle.typed_unit.specs.declared.typed.GlobalVar.{GlobalVar}
+use Rattle.typed_unit.specs.declared.typed.Taker.{Taker}
+use Rattle.typed_unit.specs.Plain.{PlainExpr, PlainStatement, PlainBlock, NoStatement, StatementThen, PlainFunction, PlainEntity, PlainUnit}
+use Rattle.typed_unit.specs.Plain as p
 use Rattle.lower_law.specs.Counts.{call_depth}
 use Rattle.lower_law.specs.FitsBody.{learn}
 use Rattle.lower_law.specs.Named.{IsLength}

@@ -2,13 +2,13 @@
 use Rattle.std.specs.Prelude.{ℕ, ◌+◌, Bool, true, false, List, [], ◌∷◌, length, map, take, Option, Some, None, option_map, slice_get, if◌then◌else◌, ◌==◌}
 use Rattle.chk_base.specs.declared.word.Width.TheVariants.{W32}
 use Rattle.chk_base.specs.Operators.{one_if}
-use Rattle.app_model.specs.declared.app.Entity.{Entity}
+use Rattle.application.specs.declared.app.Entity.{Entity}
 use Rattle.step_ir.specs.PointStep.{nowhere}
-use Rattle.c_types.specs.declared.typed.GlobalVar.{GlobalVar}
-use Rattle.c_types.specs.declared.typed.Local.{Local}
-use Rattle.c_types.specs.declared.typed.Taker.{Taker}
-use Rattle.c_types.specs.Plain.{PlainExpr, PlainStatement, PlainBlock, NoStatement, StatementThen, PlainFunction, PlainEntity, PlainUnit, type_of}
-use Rattle.c_types.specs.Plain as p
+use Rattle.typed_unit.specs.declared.typed.GlobalVar.{GlobalVar}
+use Rattle.typed_unit.specs.declared.typed.Local.{Local}
+use Rattle.typed_unit.specs.declared.typed.Taker.{Taker}
+use Rattle.typed_unit.specs.Plain.{PlainExpr, PlainStatement, PlainBlock, NoStatement, StatementThen, PlainFunction, PlainEntity, PlainUnit, type_of}
+use Rattle.typed_unit.specs.Plain as p
 use Rattle.lower_law.specs.Typed.{CType, BinaryOperator, LogicalAnd, LogicalOr, CellExpr}
 use Rattle.lower_law.specs.Typed as c
 use Rattle.lower_law.specs.Statements.{CellStatement, Loop, CellBlock, Nil, Cons, CellFunction, CellUnit, no_body}

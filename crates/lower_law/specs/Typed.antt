@@ -1,10 +1,10 @@
 -- Typed expressions whose globals are named by their cells.
 use Rattle.std.specs.Prelude.{ℕ, Bool}
-pub use Rattle.c_types.specs.declared.typed.CType.{CType}
-pub use Rattle.c_expression.specs.declared.expression.BinaryOperator.{BinaryOperator}
-pub use Rattle.c_expression.specs.declared.expression.BinaryOperator.TheVariants.{Multiply, Divide, Remainder, Add, Subtract, ShiftLeft, ShiftRight, Less, LessEqual, Greater, GreaterEqual, Equal, NotEqual, And, Xor, Or, LogicalAnd, LogicalOr}
-pub use Rattle.c_expression.specs.declared.expression.UnaryOperator.{UnaryOperator}
-pub use Rattle.c_expression.specs.declared.expression.UnaryOperator.TheVariants.{Minus, Plus, Not, Complement}
+pub use Rattle.typed_unit.specs.declared.typed.CType.{CType}
+pub use Rattle.c_unit.specs.declared.expression.BinaryOperator.{BinaryOperator}
+pub use Rattle.c_unit.specs.declared.expression.BinaryOperator.TheVariants.{Multiply, Divide, Remainder, Add, Subtract, ShiftLeft, ShiftRight, Less, LessEqual, Greater, GreaterEqual, Equal, NotEqual, And, Xor, Or, LogicalAnd, LogicalOr}
+pub use Rattle.c_unit.specs.declared.expression.UnaryOperator.{UnaryOperator}
+pub use Rattle.c_unit.specs.declared.expression.UnaryOperator.TheVariants.{Minus, Plus, Not, Complement}
 
 -- an expression, with its conversions written out; a local is named by its number and a global by its first cell, and the operands of an operator are signed or not
 pub data CellExpr : Type 0 where

@@ -4,7 +4,7 @@ ghost use Rattle.chk_base.specs.declared.word.Width.{Width};
 ghost use Rattle.step_ir.specs.PointStep.{Program, of_points};
 ghost use Rattle.lower_law.specs.EntityStep.{of_unit};
 ghost use Rattle.lower_law.specs.Exact.{Layout, IsLowered, IsExact, FitsEntity, AreLowered, HasSameEvents, lowered};
-ghost use Rattle.c_types.specs.Plain.{PlainEntity, PlainUnit};
+ghost use Rattle.typed_unit.specs.Plain.{PlainEntity, PlainUnit};
 ghost use Rattle.step_ir.specs.Fits.{bit_count};
 ghost use Rattle.lower_law.specs.Counts.{bit_total, call_depth, entity_points};
 ghost use Rattle.lower_law.specs.Layout.{cell_width, layout, lowered_points, names_before};

@@ -4,11 +4,11 @@ ghost use Rattle.chk_base.specs.Term.{term_of};
 ghost use Rattle.chk_base.specs.Term as plain;
 ghost use Rattle.lower_law.specs.Items.{extend_term, convert_term, binary_term, unary_term};
 
-use c_expression::expression::{BinaryOperator, UnaryOperator};
-use c_types::typed::CType;
+use c_unit::expression::{BinaryOperator, UnaryOperator};
 use chk_base::expr::{BinOp, Expr, UnOp};
 use chk_base::word::Width;
 use std::alloc::{AllocError, Global};
+use typed_unit::typed::CType;
 
 pub fn un(alloc: Global, op: UnOp, a: Expr) -> Result<Expr, AllocError>
     ensures { IfOk result (λ t. term_of t ≡ plain.Un op (term_of a)) }

@@ -1,7 +1,7 @@
 -- The cells of variables.
 use Rattle.std.proofs.Common.{◌≡◌, ℕ, zero, suc, ◌+◌, ◌<◌, ◌≤◌, List, [], ◌∷◌, length, take, drop, get_or, refl, ap, arith}
 use Rattle.std.proofs.lemmas.List.{drop_more}
-use Rattle.c_types.specs.declared.typed.GlobalVar.{GlobalVar}
+use Rattle.typed_unit.specs.declared.typed.GlobalVar.{GlobalVar}
 use Rattle.lower_law.specs.Translated.{elements, cell_count}
 
 pub globals_more : (gs : List GlobalVar) (i : ℕ) (d : GlobalVar) → i < length gs → cell_count (drop i gs) ≡ elements (get_or gs i d).len + cell_count (drop (i + 1) gs)

@@ -9,12 +9,12 @@ ghost use Rattle.lower_pieces.specs.Trees.{tree_of, takes_of, statement_of};
 
 use crate::copies::copy;
 use crate::tree::{ExpressionTree, FunctionTree, StatementTree, Takes};
-use c_types::typed::CType;
 use chk_base::expr::Expr;
 use chk_base::sets::{Set, Sets};
 use lower_law::operations::convert;
 use std::alloc::{AllocError, Global};
 use step_ir::code::{Action, Nexts, Target};
+use typed_unit::typed::CType;
 
 /// The body that statements stand in: its first local's cell, and, unless it is an entity's own, where a return goes and the cell that it
 /// sets.

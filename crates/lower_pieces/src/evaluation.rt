@@ -11,7 +11,7 @@ ghost use Rattle.lower_pieces.specs.Within.{LocalsBelow};
 
 use crate::copies::{Guard, copy, guard_test, joined_guard};
 use crate::tree::ExpressionTree;
-use c_expression::expression::{BinaryOperator, UnaryOperator};
+use c_unit::expression::{BinaryOperator, UnaryOperator};
 use chk_base::expr::{BinOp, Expr, UnOp};
 use lower_law::operations::{bin, binary, choose, convert, extend, un, unary};
 use std::alloc::{AllocError, Global};

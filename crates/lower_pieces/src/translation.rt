@@ -1,17 +1,17 @@
 // Typed expressions over cells.
 ghost use Rattle.std.specs.Prelude.{◌≡◌, ◌+◌, ◌<◌, ◌≤◌, ◌^◌, IfOk, option_map, slice_get, take, length, min};
-ghost use Rattle.c_types.specs.Plain.{type_of};
-ghost use Rattle.c_types.specs.Views.{expr_of};
+ghost use Rattle.typed_unit.specs.Plain.{type_of};
+ghost use Rattle.typed_unit.specs.Views.{expr_of};
 ghost use Rattle.lower_law.specs.Typed as plain;
 ghost use Rattle.lower_law.specs.Translated.{elements, cell_count, global_cell, global_type, binary, expr};
 ghost use Rattle.lower_pieces.specs.Trees.{tree_of};
 ghost use Rattle.lower_pieces.specs.Within.{LocalsBelow};
 
 use crate::tree::ExpressionTree;
-use c_expression::expression::{BinaryOperator, UnaryOperator};
-use c_types::typed::{CType, GlobalVar, TypedExpr};
+use c_unit::expression::{BinaryOperator, UnaryOperator};
 use chk_base::word::Width;
 use std::alloc::{AllocError, Global};
+use typed_unit::typed::{CType, GlobalVar, TypedExpr};
 
 /// The type of an expression. It takes no memory.
 pub fn ctype_of(e: &TypedExpr) -> CType

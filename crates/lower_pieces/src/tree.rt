@@ -1,8 +1,8 @@
 // Expressions and statements over cells, with each conversion written out.
-use c_expression::expression::{BinaryOperator, UnaryOperator};
-use c_types::typed::CType;
+use c_unit::expression::{BinaryOperator, UnaryOperator};
 use chk_base::place::Place;
 use step_ir::event::Service;
+use typed_unit::typed::CType;
 
 /// An expression. A local has its number in its body, and a global its first cell. The flag of an operator says whether its operands are
 /// signed.

@@ -3,7 +3,7 @@ ghost use Rattle.std.specs.Prelude.{◌≡◌, ◌<◌, ℕ, IfOk};
 ghost use Rattle.one_stack.specs.Labelled.{TakesWord};
 ghost use Rattle.one_stack.specs.Sample.{activating, activation, task_with, termination, two_tasks};
 
-use app_model::app::{App, Class, Entity, Notes, Numbers, Resources, Routines, Task, Tasks};
+use application::app::{App, Class, Entity, Notes, Numbers, Resources, Routines, Task, Tasks};
 use chk_base::expr::Expr;
 use chk_base::place::Place;
 use chk_base::text::Text;

@@ -1,10 +1,10 @@
 // Steps of a task that writes and reads a global, and of a routine that ends at once.
 ghost use Rattle.std.specs.Prelude.{◌≡◌, IfOk};
-ghost use Rattle.app_model.specs.InOrder.{IsInOrder};
+ghost use Rattle.application.specs.InOrder.{IsInOrder};
 ghost use Rattle.osek_machine.specs.Sample.{HasOneEach, cell_names, entity_codes, global, point_to, points_of_task};
 ghost use Rattle.step_ir.specs.Fits.{Fits};
 
-use app_model::app::{
+use application::app::{
     App, Class, Entity, Notes, Numbers, Resources, Routine, Routines, Task, Tasks,
 };
 use chk_base::expr::Expr;

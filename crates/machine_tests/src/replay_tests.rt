@@ -1,12 +1,12 @@
 // Schedules over a small application: a task that takes an input of each type and then fails, a routine that clears a global and sets it
 // again, and a routine above it that asserts that the global isn't 0.
 ghost use Rattle.std.specs.Prelude.{◌≡◌, length, ◌≤◌, ◌++◌, ◌∷◌, [], false, IfOk, OnOk};
-ghost use Rattle.app_model.specs.InOrder.{IsInOrder};
+ghost use Rattle.application.specs.InOrder.{IsInOrder};
 ghost use Rattle.osek_machine.specs.Sample.{global, point_to};
 ghost use Rattle.replay.specs.Sample.{HasThree, cell, cells_of_task, entity_codes, points_of_asserting, points_of_clearing, points_of_task, routine_of_sample, task_of_sample};
 ghost use Rattle.step_ir.specs.Fits.{Fits};
 
-use app_model::app::{
+use application::app::{
     App, Class, Entity, Notes, Numbers, Resources, Routine, Routines, Task, Tasks,
 };
 use chk_base::expr::Expr;

@@ -1,5 +1,5 @@
 // The lists grow where there is memory.
-use app_model::app::Entity;
+use application::app::Entity;
 use chk_base::expr::Expr;
 use chk_base::place::Place;
 use chk_base::text::Text;

@@ -2,9 +2,9 @@
 use Rattle.std.proofs.Common.{◌≡◌, ℕ, Bool, true, false, if◌then◌else◌, Option, List, [], ◌∷◌, ◌++◌, map, sym, subst}
 use Rattle.std.specs.List.{AllByRecursion, flat_map}
 use Rattle.app_model.specs.Application.{application, chosen_mode, leveled, routine_in, routine_of, task_in, task_of}
-use Rattle.app_model.specs.declared.app.Routine.{Routine}
-use Rattle.app_model.specs.declared.app.Task.{Task}
-use Rattle.app_model.specs.Levels.{run_level_among}
+use Rattle.application.specs.declared.app.Routine.{Routine}
+use Rattle.application.specs.declared.app.Task.{Task}
+use Rattle.application.specs.Levels.{run_level_among}
 use Rattle.cert_form.specs.Words.{is_name}
 use Rattle.name_law.proofs.Named.{AreNamed, IsNamed, file_named}
 use Rattle.name_law.proofs.Spelled.{AreSpelled, all_append, text_spelled}
@@ -12,11 +12,11 @@ use Rattle.name_law.specs.Names.{AreNames, entity_names}
 use Rattle.oil_rules.specs.declared.known.Known.{Known}
 use Rattle.oil_rules.specs.Kinds.{is_routine, is_task, kind_of}
 use Rattle.oil_rules.specs.Known.{known_of}
-use Rattle.oil_text.specs.declared.tree.Attribute.{Attribute}
-use Rattle.oil_text.specs.declared.tree.Item.{Item}
-use Rattle.oil_text.specs.declared.tree.Item.TheVariants as of
-use Rattle.oil_text.specs.declared.tree.OilTree.{OilTree}
-use Rattle.oil_text.specs.Listed.{listed}
+use Rattle.oil_tree.specs.declared.tree.Attribute.{Attribute}
+use Rattle.oil_tree.specs.declared.tree.Item.{Item}
+use Rattle.oil_tree.specs.declared.tree.Item.TheVariants as of
+use Rattle.oil_tree.specs.declared.tree.OilTree.{OilTree}
+use Rattle.oil_tree.specs.Listed.{listed}
 use Rattle.oil_text.specs.OilText.{IsOilText}
 
 abbrev IsTaskNamed : Task → Type 0

@@ -6,8 +6,8 @@ use Rattle.cert_form.specs.Words.{is_name}
 use Rattle.grammar.specs.Grammar.{Expression, Many, Rule, Tree, Nil, Leaf, Pair, Left, Right, Node, is_tree, items, leaves, ◌▸◌, ◌∣◌}
 use Rattle.name_law.proofs.Spelled.{AreSpelled, IsSpelled, all_parts}
 use Rattle.oil_text.specs.declared.token.Token.{Token}
-use Rattle.oil_text.specs.declared.tree.Item.{Item}
-use Rattle.oil_text.specs.declared.tree.Item.TheVariants as of
+use Rattle.oil_tree.specs.declared.tree.Item.{Item}
+use Rattle.oil_tree.specs.declared.tree.Item.TheVariants as of
 use Rattle.oil_text.specs.OilGrammar.{Part, Cpu, File, Object, include, name, oil, rule}
 use Rattle.oil_text.specs.OilMeaning.{item_at, items_at, object_at, text_at, tree_of}
 

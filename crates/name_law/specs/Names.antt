@@ -1,6 +1,6 @@
 -- The names of an application's entities.
 use Rattle.std.specs.Prelude.{◌≡◌, ℕ, true, List, [], ◌∷◌, ◌++◌, map}
-use Rattle.app_model.specs.declared.app.App.{App}
+use Rattle.application.specs.declared.app.App.{App}
 use Rattle.cert_form.specs.Words.{is_name}
 
 -- each is a letter or `_`, and then letters, digits and `_`

@@ -15,11 +15,11 @@ use Rattle.oil_rules.specs.declared.kind.Kind.{Kind}
 use Rattle.oil_rules.specs.Objects.{name_in, names_in}
 use Rattle.oil_rules.specs.declared.known.Known.{Known}
 use Rattle.oil_rules.specs.declared.group.Group.{Group}
-use Rattle.oil_text.specs.declared.tree.Item.{Item}
-use Rattle.oil_text.specs.declared.tree.Item.TheVariants as items
-use Rattle.oil_text.specs.PlainAttributes.{PlainAttributes}
-use Rattle.oil_text.specs.Listed.{listed}
-use Rattle.oil_text.specs.declared.tree.OilTree.{OilTree}
+use Rattle.oil_tree.specs.declared.tree.Item.{Item}
+use Rattle.oil_tree.specs.declared.tree.Item.TheVariants as items
+use Rattle.oil_tree.specs.PlainAttributes.{PlainAttributes}
+use Rattle.oil_tree.specs.Listed.{listed}
+use Rattle.oil_tree.specs.declared.tree.OilTree.{OilTree}
 use Rattle.oil_rules.specs.Known.{known_of}
 
 -- the faults of two lists, one after the other

@@ -1,7 +1,7 @@
 -- What the whole of a CPU section says, as far as the rules on single attributes ask.
 use Rattle.std.specs.Prelude.{List}
 use Rattle.std.specs.List.{list_any}
-use Rattle.oil_text.specs.declared.tree.Item.{Item}
+use Rattle.oil_tree.specs.declared.tree.Item.{Item}
 use Rattle.oil_rules.specs.declared.group.Group.TheVariants as groups
 use Rattle.oil_rules.specs.declared.known.Known.{Known}
 use Rattle.oil_rules.specs.Names.{distinct}

@@ -2,11 +2,11 @@
 use Rattle.std.specs.Prelude.{ℕ, Bool, true, false, not, ◌&&◌, ◌||◌, if◌then◌else◌, List, [], ◌∷◌, map, codes}
 use Rattle.std.specs.List.{list_any, flat_map}
 use Rattle.chk_base.specs.declared.text.Name.{Name}
-use Rattle.oil_text.specs.declared.tree.Attribute.{Attribute}
-use Rattle.oil_text.specs.declared.tree.Item.{Item}
-use Rattle.oil_text.specs.declared.tree.Item.TheVariants as items
-use Rattle.oil_text.specs.PlainAttributes.{PlainAttributes}
-use Rattle.oil_text.specs.Listed.{listed}
+use Rattle.oil_tree.specs.declared.tree.Attribute.{Attribute}
+use Rattle.oil_tree.specs.declared.tree.Item.{Item}
+use Rattle.oil_tree.specs.declared.tree.Item.TheVariants as items
+use Rattle.oil_tree.specs.PlainAttributes.{PlainAttributes}
+use Rattle.oil_tree.specs.Listed.{listed}
 use Rattle.oil_rules.specs.declared.kind.Kind.{Kind}
 use Rattle.oil_rules.specs.declared.role.Role.{Role}
 use Rattle.oil_rules.specs.declared.role.Role.TheVariants as roles

@@ -1,9 +1,9 @@
 -- Values of attributes (OIL 2.5, 4).
 use Rattle.std.specs.Prelude.{ℕ, ◌+◌, ◌-◌, ◌*◌, Bool, true, false, not, ◌&&◌, ◌||◌, ◌==◌, nat_lt, nat_le, if◌then◌else◌, List, [], ◌∷◌, drop, fold, codes}
 use Rattle.std.specs.Str.{bytes_eq}
-use Rattle.oil_text.specs.declared.tree.Value.{Value}
-use Rattle.oil_text.specs.declared.tree.ValueForm.{ValueForm}
-use Rattle.oil_text.specs.declared.tree.ValueForm.TheVariants as forms
+use Rattle.oil_tree.specs.declared.tree.Value.{Value}
+use Rattle.oil_tree.specs.declared.tree.ValueForm.{ValueForm}
+use Rattle.oil_tree.specs.declared.tree.ValueForm.TheVariants as forms
 use Rattle.oil_rules.specs.declared.role.Role.{Role}
 use Rattle.oil_rules.specs.declared.role.Role.TheVariants as roles
 

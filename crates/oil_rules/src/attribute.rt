@@ -2,7 +2,7 @@
 ghost use Rattle.std.specs.Prelude.{◌≡◌, Option, codes};
 ghost use Rattle.std.specs.Option.{option_copied};
 ghost use Rattle.std.specs.List.{flat_map, list_any};
-ghost use Rattle.oil_text.specs.Listed.{listed};
+ghost use Rattle.oil_tree.specs.Listed.{listed};
 ghost use Rattle.oil_rules.specs.First.{first_of};
 ghost use Rattle.oil_rules.specs.Rules.{is_first_category, is_out_of_range, value_faults, names_resource, is_no_resource, names_internal, is_second_internal, is_internal_of_routine, is_forbidden_scheduler, resource_faults, is_mode_attribute, mode_faults, starts, start_faults, attribute_faults};
 
@@ -13,7 +13,7 @@ use crate::known::Known;
 use crate::role::Role;
 use crate::value::{has_form, is_between, is_integer, is_name, is_word};
 use chk_base::text::Text;
-use oil_text::tree::{Attribute, Value};
+use oil_tree::tree::{Attribute, Value};
 
 #[tactic(auto, unfolding(crate::specs::Rules::is_out_of_range))]
 fn is_out_of_range(kind: Kind, role: Role, value: &Value) -> bool

@@ -2,7 +2,7 @@
 ghost use Rattle.std.specs.Prelude.{◌≡◌, IfOk, None, Some, drop, codes, [], ◌∷◌};
 ghost use Rattle.std.specs.Option.{option_copied};
 ghost use Rattle.std.specs.List.{list_any};
-ghost use Rattle.oil_text.specs.Listed.{listed};
+ghost use Rattle.oil_tree.specs.Listed.{listed};
 ghost use Rattle.oil_rules.specs.Kinds.{kind_of};
 ghost use Rattle.oil_rules.specs.Names.{distinct, repeats};
 ghost use Rattle.oil_rules.specs.Objects.{role_in, sets, has_set, has_attribute, is_resource, is_in, name_in, names_in, texts_in, lacks_scheduler};
@@ -15,7 +15,7 @@ use crate::names::Names;
 use crate::role::{Role, role_of};
 use crate::value::is_word;
 use chk_base::text::Name;
-use oil_text::tree::{Attribute, Item};
+use oil_tree::tree::{Attribute, Item};
 use std::alloc::{AllocError, Global};
 
 /// Which objects are asked for: resources but RES_SCHEDULER, the internal ones among them, tasks and routines, all of those that share one

@@ -4,7 +4,7 @@ ghost use Rattle.oil_rules.specs.Known.{known_of};
 
 use crate::group::{Group, distinct_names, some_lacks_scheduler};
 use crate::names::Names;
-use oil_text::tree::Item;
+use oil_tree::tree::Item;
 use std::alloc::{AllocError, Global};
 
 /// The names of the resources, of the internal ones among them and of the modes, each once, and whether USERESSCHEDULER is FALSE.

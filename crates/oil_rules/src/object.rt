@@ -17,7 +17,7 @@ use crate::role::Role;
 use crate::value::is_between;
 use chk_base::place::Place;
 use chk_base::text::{Name, Text};
-use oil_text::tree::{Attribute, Item};
+use oil_tree::tree::{Attribute, Item};
 use std::alloc::{AllocError, Global};
 
 impl Kind {

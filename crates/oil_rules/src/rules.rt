@@ -11,7 +11,7 @@ use crate::known::Known;
 use crate::object::seeing_items;
 use chk_base::place::Place;
 use chk_base::text::Text;
-use oil_text::tree::{Item, OilTree};
+use oil_tree::tree::{Item, OilTree};
 use std::alloc::{AllocError, Global};
 
 fn lacks_modes(known: &Known<'_>) -> bool

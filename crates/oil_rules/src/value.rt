@@ -4,7 +4,7 @@ ghost use Rattle.oil_rules.specs.Values.{is_word_form, is_integer_form, is_name,
 
 use crate::kind::same;
 use crate::role::Role;
-use oil_text::tree::{Value, ValueForm};
+use oil_tree::tree::{Value, ValueForm};
 
 /// Whether it is a name. It takes no memory.
 pub fn is_name(value: &Value) -> bool

@@ -17,7 +17,7 @@ use Rattle.oil_text.specs.OilText.{IsFile, IsOilText, IsTokenFault, IsEndFault, 
 use Rattle.oil_text.specs.declared.fault.OilFault.{OilFault}
 use Rattle.oil_text.specs.declared.fault.OilFault.TheVariants.{Byte, Token, EndOfText, Memory}
 use Rattle.oil_text.specs.declared.token.Token.{Token as OneToken}
-use Rattle.oil_text.specs.declared.tree.OilTree.{OilTree}
+use Rattle.oil_tree.specs.declared.tree.OilTree.{OilTree}
 use Rattle.oil_text.proofs.Decides.{decides}
 use Rattle.oil_text.proofs.Whole.{file_decides}
 

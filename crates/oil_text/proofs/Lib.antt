@@ -1,4 +1,3 @@
-pub mod Lists
 pub mod Longest
 pub mod PieceLaws
 pub mod Places

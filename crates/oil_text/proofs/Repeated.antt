@@ -11,8 +11,8 @@ use Rattle.chk_base.specs.declared.place.Place.{Place}
 use Rattle.oil_text.specs.declared.token.Token.{Token}
 use Rattle.oil_text.specs.declared.stop.Stop.{Stop}
 use Rattle.oil_text.specs.declared.stop.Stop.TheVariants as stops
-use Rattle.oil_text.specs.PlainAttributes.{PlainAttributes, NoAttribute, AttributeThen}
-use Rattle.oil_text.specs.Listed.{listed, plain}
+use Rattle.oil_tree.specs.PlainAttributes.{PlainAttributes, NoAttribute, AttributeThen}
+use Rattle.oil_tree.specs.Listed.{listed, plain}
 use Rattle.oil_text.specs.OilGrammar.{Part, Object, Attribute as AttributeRule, class_of, include}
 use Rattle.oil_text.specs.OilLookahead.{firsts, lookahead}
 use Rattle.oil_text.specs.OilMeaning.{attribute_at, attributes_at}

@@ -7,7 +7,7 @@ use Rattle.grammar.specs.Reading.{Got, Stuck, reading}
 use Rattle.grammar.proofs.Laws.{fault, trailing, cut_off, read_as}
 use Rattle.chk_base.specs.Places.{place_after}
 use Rattle.oil_text.specs.declared.token.Token.{Token}
-use Rattle.oil_text.specs.declared.tree.OilTree.{OilTree}
+use Rattle.oil_tree.specs.declared.tree.OilTree.{OilTree}
 use Rattle.oil_text.specs.declared.fault.OilFault.{OilFault}
 use Rattle.oil_text.specs.declared.fault.OilFault.TheVariants as faults
 use Rattle.oil_text.specs.OilTokens.{AreTokensOf}

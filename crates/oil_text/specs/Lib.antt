@@ -1,7 +1,7 @@
-pub mod PlainAttributes
-pub mod Listed
-pub mod PlainCode
-pub mod Levels
+pub use Rattle.oil_tree.specs.PlainAttributes
+pub use Rattle.oil_tree.specs.Listed
+pub use Rattle.oil_tree.specs.PlainCode
+pub use Rattle.oil_tree.specs.Levels
 pub mod Bytes
 pub mod ByteClass
 pub mod Pieces

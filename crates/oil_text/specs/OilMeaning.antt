@@ -3,17 +3,17 @@ use Rattle.std.specs.Prelude.{ℕ, Bool, true, false, List, [], ◌++◌, map, O
 use Rattle.chk_base.specs.declared.place.Place.{Place}
 use Rattle.chk_base.specs.declared.text.Name.{Name}
 use Rattle.grammar.specs.Grammar.{Tree, Nil, Leaf, Pair, Left, Right, Node, items}
-use Rattle.oil_text.specs.PlainAttributes.{PlainAttributes, NoAttribute, AttributeThen}
+use Rattle.oil_tree.specs.PlainAttributes.{PlainAttributes, NoAttribute, AttributeThen}
 use Rattle.oil_text.specs.declared.token.Kind.{Kind}
 use Rattle.oil_text.specs.declared.token.Kind.TheVariants as kinds
 use Rattle.oil_text.specs.declared.token.Token.{Token}
-use Rattle.oil_text.specs.declared.tree.Value.{Value}
-use Rattle.oil_text.specs.declared.tree.ValueForm.{ValueForm}
-use Rattle.oil_text.specs.declared.tree.ValueForm.TheVariants as forms
-use Rattle.oil_text.specs.declared.tree.Attribute.{Attribute}
-use Rattle.oil_text.specs.declared.tree.Item.{Item}
-use Rattle.oil_text.specs.declared.tree.Item.TheVariants as of
-use Rattle.oil_text.specs.declared.tree.OilTree.{OilTree}
+use Rattle.oil_tree.specs.declared.tree.Value.{Value}
+use Rattle.oil_tree.specs.declared.tree.ValueForm.{ValueForm}
+use Rattle.oil_tree.specs.declared.tree.ValueForm.TheVariants as forms
+use Rattle.oil_tree.specs.declared.tree.Attribute.{Attribute}
+use Rattle.oil_tree.specs.declared.tree.Item.{Item}
+use Rattle.oil_tree.specs.declared.tree.Item.TheVariants as of
+use Rattle.oil_tree.specs.declared.tree.OilTree.{OilTree}
 
 -- What stands here for a tree that is none of the grammar, which never comes.
 abbrev pub nowhere : Place

@@ -8,7 +8,7 @@ use Rattle.oil_text.specs.OilTokens.{AreTokensOf, IsByteFault}
 use Rattle.oil_text.specs.OilGrammar.{File, oil}
 use Rattle.oil_text.specs.OilMeaning.{tree_of}
 use Rattle.oil_text.specs.declared.token.Token.{Token}
-use Rattle.oil_text.specs.declared.tree.OilTree.{OilTree}
+use Rattle.oil_tree.specs.declared.tree.OilTree.{OilTree}
 use Rattle.oil_text.specs.declared.fault.OilFault.{OilFault}
 use Rattle.oil_text.specs.declared.fault.OilFault.TheVariants as faults
 

@@ -3,7 +3,7 @@ ghost use Rattle.std.specs.Prelude.{◌≡◌, ◌⊎◌, ℕ, List};
 ghost use Rattle.oil_text.specs.OilText.{IsOilText, IsRefusedFor};
 ghost use Rattle.oil_text.specs.declared.fault.OilFault.{OilFault};
 ghost use Rattle.oil_text.specs.declared.fault.OilFault.TheVariants.{Memory};
-ghost use Rattle.oil_text.specs.declared.tree.OilTree.{OilTree};
+ghost use Rattle.oil_tree.specs.declared.tree.OilTree.{OilTree};
 
 /// Each text has exactly one outcome beside want of memory: one tree, or one fault with one place. So `read_oil` answers a tree exactly
 /// where the text has one, and each fault exactly where it is the text's, unless memory runs out.

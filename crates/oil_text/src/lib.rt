@@ -1,6 +1,8 @@
 // The OIL reader: from the bytes of an OIL text to its tree, or to its first fault.
 #![tactic(auto)]
 
+pub use oil_tree::tree;
+
 mod braced;
 mod bytes;
 pub mod fault;
@@ -12,4 +14,3 @@ mod reading;
 mod sections;
 mod stop;
 mod token;
-pub mod tree;

@@ -8,9 +8,9 @@ use crate::lexing::tokens;
 use crate::sections::file;
 use crate::stop::Stop;
 use crate::token::Token;
-use crate::tree::OilTree;
 use chk_base::place::place_of;
 use chk_base::text::Text;
+use oil_tree::tree::OilTree;
 use std::alloc::Global;
 
 /// The fault where these tokens are left.

@@ -8,9 +8,9 @@ ghost use Rattle.oil_text.specs.OilReading.{Gives, tree_at};
 
 use crate::stop::Stop;
 use crate::token::{Kind, Mark, Token};
-use crate::tree::{Attribute, Attributes, Item, Value, ValueForm};
 use chk_base::place::Place;
 use chk_base::text::Name;
+use oil_tree::tree::{Attribute, Attributes, Item, Value, ValueForm};
 use std::alloc::Global;
 
 /// A token of the kind.

@@ -10,9 +10,9 @@ use crate::braced::braced;
 use crate::reading::{description, is_next, name, object, string, token};
 use crate::stop::Stop;
 use crate::token::{Kind, Mark, Token};
-use crate::tree::{Item, Items, OilTree, Places};
 use chk_base::place::Place;
 use chk_base::text::Name;
+use oil_tree::tree::{Item, Items, OilTree, Places};
 use std::alloc::Global;
 
 /// The places of includes, after those that are there.

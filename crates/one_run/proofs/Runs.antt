@@ -1,6 +1,6 @@
 -- The one run: what it has done so far is a permitted schedule.
 use Rattle.std.proofs.Common.{◌≡◌, ◌≢◌, ℕ, zero, suc, ◌+◌, ◌≤◌, Bool, true, false, List, [], ◌∷◌, ◌++◌, length, Option, Some, None, is_some, refl, sym, ap, ◌∙◌, add-one, length-append, subst, arith}
-use Rattle.app_model.specs.declared.app.App.{App}
+use Rattle.application.specs.declared.app.App.{App}
 use Rattle.osek_machine.specs.Kept.{Kept}
 use Rattle.osek_machine.specs.Steps.{HasRun}
 use Rattle.replay.specs.Replaying.{failure_of, last_failure}

@@ -1,7 +1,7 @@
 -- The one run of a machine where no routine arrives and no input is taken.
 use Rattle.std.specs.Prelude.{◌≡◌, ◌≢◌, ℕ, Bool, true, false, not, List, length, Option, Some, None, is_some, replicate, slice_get}
 use Rattle.std.specs.List.{list_all}
-use Rattle.app_model.specs.declared.app.App.{App}
+use Rattle.application.specs.declared.app.App.{App}
 use Rattle.replay.specs.Replaying.{events_for, last_failure}
 use Rattle.step_ir.specs.declared.code.Code.{Code}
 use Rattle.step_ir.specs.declared.code.EntityCode.{EntityCode}

@@ -1,13 +1,13 @@
 // The one run of a machine where no routine arrives and no input is taken.
 ghost use Rattle.std.specs.Prelude.{◌≡◌, ◌≤◌, IfOk};
-ghost use Rattle.app_model.specs.InOrder.{IsInOrder};
+ghost use Rattle.application.specs.InOrder.{IsInOrder};
 ghost use Rattle.step_ir.specs.Fits.{Fits};
 ghost use Rattle.replay.specs.Replaying.{failure_of};
 ghost use Rattle.one_run.specs.OneRun.{IsRunOf, TakesNoInput, steps};
 
-use app_model::app::App;
+use application::app::App;
 use osek_machine::machine::{Machine, Outcome};
-use report::reports::Replayed;
+use replay::run::Replayed;
 use std::alloc::{AllocError, Global};
 use step_ir::code::Code;
 use step_ir::event::{Choice, Choices, Event, EventAction, Events, Failure};

@@ -17,7 +17,7 @@ use Rattle.one_stack.specs.Built.{places, held_times, held_of}
 use Rattle.one_stack.specs.PlainCode.{PlainCode, steps_of}
 use Rattle.one_stack.specs.Rules.{Plan, Rule, is_it, change_sets, plain, pushed, added, next_rules, activate_rules, guarded, none_held, both, Held}
 use Rattle.one_stack.specs.TaskForm.{Has, IsTaskForm}
-use Rattle.step_ir.proofs.Rising.{rising_lem}
+use Rattle.trace_law.proofs.Rising.{rising_lem}
 use Rattle.step_ir.proofs.Lists.{foremost_some, foremost_none}
 use Rattle.step_ir.proofs.Stacks.{rises_below, times_below, current_above}
 use Rattle.step_ir.specs.Agreement.{fresh_at, Rises, IsForemost}

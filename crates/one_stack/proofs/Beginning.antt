@@ -1,6 +1,6 @@
 -- The start values of the cells, and the stack at the start.
 use Rattle.std.proofs.Common.{◌≡◌, ◌∙◌, ℕ, zero, suc, ◌+◌, ◌*◌, ◌≤◌, Bool, true, false, if◌then◌else◌, ◌==◌, nat_lt, List, [], ◌∷◌, length, Option, Some, None, refl, sym, ap, ap₂, subst, arith}
-use Rattle.app_model.specs.declared.app.Task.{Task}
+use Rattle.application.specs.declared.app.Task.{Task}
 use Rattle.one_stack.specs.Built.{held_of, held_times, kept_at, sum_below}
 use Rattle.one_stack.specs.PlainCode.{PlainCode, steps_of}
 use Rattle.one_stack.specs.Starting.{IsStart, first_task, stack_of, without_task}

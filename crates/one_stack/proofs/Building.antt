@@ -1,7 +1,7 @@
 -- The draft is the program that is built.
 use Rattle.std.proofs.Common.{◌≡◌, ◌∙◌, ℕ, ◌+◌, List, [], ◌∷◌, ◌++◌, map, reverse, Option, sym, ap₂, subst}
 use mathlib.Core.Path.{fun_ext}
-use Rattle.app_model.specs.declared.app.App.{App}
+use Rattle.application.specs.declared.app.App.{App}
 use Rattle.chk_base.specs.declared.word.Width.{Width}
 use Rattle.chk_base.specs.Widths.{PlainWord}
 use Rattle.guard_prog.specs.GuardedRun.{PlainAlternative}

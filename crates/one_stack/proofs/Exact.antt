@@ -2,7 +2,7 @@
 use Rattle.std.proofs.Common.{◌≡◌, ◌≢◌, ℕ, ◌<◌, ◌≤◌, Bool, true, false, ◌&&◌, List, [], ◌∷◌, length, Option, Some, None, refl, sym, ap, ap₂, subst, ◌∙◌, arith, nat_lt, ◌==◌, if◌then◌else◌, option_map}
 use Rattle.std.proofs.lemmas.Bool.Decides.{nat_tests}
 use Rattle.std.specs.Prelude.{reverse}
-use Rattle.app_model.specs.declared.app.Entity.{Entity}
+use Rattle.application.specs.declared.app.Entity.{Entity}
 use Rattle.chk_base.specs.Term.{Const}
 use Rattle.chk_base.specs.Widths.{limit_of}
 use Rattle.guard_prog.specs.GuardedRun.{Program, State as Standing, PlainAlternative, stack_after, enabled_of, alternative_with, alternatives_at, turn_by, state_after, turn, run_on as turns_from, start_of, run}
@@ -17,7 +17,7 @@ use Rattle.one_stack.specs.PlainCode.{PlainCode, steps_of}
 use Rattle.one_stack.specs.Rules.{Plan, Rule, Slot, point_alternatives, point_rules}
 use Rattle.one_stack.specs.TaskForm.{IsTaskForm}
 use Rattle.step_ir.proofs.Lists.{foremost_some, foremost_none}
-use Rattle.step_ir.proofs.Traces.{steps, same_runs_lem}
+use Rattle.trace_law.proofs.Traces.{steps, same_runs_lem}
 use Rattle.step_ir.specs.Agreement.{HaveSame, Agrees, fresh_at}
 use Rattle.step_ir.specs.Deeds.{Deed, deed_of, action_of}
 use Rattle.step_ir.specs.EntityStep.{Want, Does, Inputs, Calls, Ends, Fails, InputFails}

@@ -5,11 +5,11 @@ use Rattle.std.proofs.lemmas.Bool.Decides.{nat_tests}
 use Rattle.std.proofs.lemmas.List.{length-map}
 use Rattle.std.proofs.lemmas.Option.{get_or_from_slice_get, slice_get_within}
 use Rattle.std.specs.List.{list_all}
-use Rattle.app_model.specs.declared.app.App.{App}
-use Rattle.app_model.specs.declared.app.Routine.{Routine}
-use Rattle.app_model.specs.declared.app.Task.{Task}
-use Rattle.app_model.specs.InOrder.{IsInOrder, IsTaskInOrder}
-use Rattle.app_model.specs.Levels.{internal_level, levels_of, greatest}
+use Rattle.application.specs.declared.app.App.{App}
+use Rattle.application.specs.declared.app.Routine.{Routine}
+use Rattle.application.specs.declared.app.Task.{Task}
+use Rattle.application.specs.InOrder.{IsInOrder, IsTaskInOrder}
+use Rattle.application.specs.Levels.{internal_level, levels_of, greatest}
 use Rattle.chk_base.specs.Term.{Term, Const, Cell, Pick, Un, Bin, Choose}
 use Rattle.one_stack.specs.PlainCode.{plain_code}
 use Rattle.one_stack.specs.TaskForm.{is_form_action, is_form_entity, is_form_point, is_form_service, is_task_form, resource_count, Reads, Has, FitsNexts, EndsOne, FitsGoing, FitsTerms, FitsIndex, FitsTarget, FitsSets, FitsSet, FitsService, FitsAction, FitsPoint, IsTaskForm, IsNumbered}

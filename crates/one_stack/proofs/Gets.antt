@@ -1,7 +1,7 @@
 -- A resource is taken.
 use Rattle.std.proofs.Common.{◌≡◌, ℕ, ◌+◌, ◌<◌, Bool, true, false, not, ◌||◌, List, [], ◌∷◌, Some, refl, sym, ap, ap₂, subst, ◌∙◌, arith, ◌==◌, if◌then◌else◌}
 use Rattle.std.proofs.lemmas.Bool.Decides.{nat_tests}
-use Rattle.app_model.specs.Levels.{has_number}
+use Rattle.application.specs.Levels.{has_number}
 use Rattle.chk_base.specs.Operators.{truth}
 use Rattle.chk_base.specs.Term.{Term}
 use Rattle.guard_prog.specs.GuardedRun.{Program, State as Standing, value_in, cell_after_sets, stack_after}

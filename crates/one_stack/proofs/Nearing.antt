@@ -7,7 +7,7 @@ use Rattle.std.proofs.lemmas.Nat.{mod-mul-add}
 use Rattle.std.proofs.lemmas.Option.{slice_get-get_or, slice_get_past}
 use Rattle.std.specs.List.{list_all}
 use mathlib.Core.Path.{fun_ext}
-use Rattle.app_model.specs.declared.app.App.{App}
+use Rattle.application.specs.declared.app.App.{App}
 use Rattle.chk_base.specs.Term.{Term}
 use Rattle.guard_prog.specs.declared.draft.Alternative.{Alternative}
 use Rattle.guard_prog.specs.declared.draft.Draft.{Draft}

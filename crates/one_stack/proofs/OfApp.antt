@@ -1,8 +1,8 @@
 -- The built program of an application in order and a code that fits it.
 use Rattle.std.proofs.Common.{◌≡◌, ◌∙◌, ℕ, zero, suc, ◌+◌, ◌≤◌, true, List, [], ◌∷◌, length, map, ap, arith, slice_get}
 use Rattle.std.proofs.lemmas.List.{length-map}
-use Rattle.app_model.specs.declared.app.App.{App}
-use Rattle.app_model.specs.InOrder.{IsInOrder}
+use Rattle.application.specs.declared.app.App.{App}
+use Rattle.application.specs.InOrder.{IsInOrder}
 use Rattle.guard_prog.specs.declared.draft.Draft.{Draft}
 use Rattle.guard_prog.specs.Drafts.{program_of}
 use Rattle.guard_prog.specs.WellShaped.{IsWellShaped}

@@ -1,7 +1,7 @@
 -- The small application is in order, and its code fits it and is of the form.
 use Rattle.std.proofs.Common.{◌≡◌, ℕ, zero, suc, ◌<◌, ◌≤◌, true, List, [], ◌∷◌, length, All, Option, Some, None, slice_get, refl, ap, subst, arith}
 use Rattle.std.specs.Prelude.{slice_index_or}
-use Rattle.app_model.specs.InOrder.{IsInOrder, IsTaskInOrder, AreDistinct, names_of}
+use Rattle.application.specs.InOrder.{IsInOrder, IsTaskInOrder, AreDistinct, names_of}
 use Rattle.one_stack.specs.Sample.{activating, two_tasks}
 use Rattle.one_stack.specs.TaskForm.{is_task_form}
 use Rattle.step_ir.specs.Fits.{Fits, IsPointFit}

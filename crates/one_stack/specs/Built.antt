@@ -1,6 +1,6 @@
 -- The whole guarded program of an application and a code of the task form.
 use Rattle.std.specs.Prelude.{◌≡◌, ℕ, zero, suc, ◌+◌, ◌*◌, if◌then◌else◌, ◌==◌, List, [], ◌∷◌, ◌++◌, length, map, reverse, slice_get, unwrap_or}
-use Rattle.app_model.specs.declared.app.App.{App}
+use Rattle.application.specs.declared.app.App.{App}
 use Rattle.chk_base.specs.declared.word.Width.{Width}
 use Rattle.chk_base.specs.declared.word.Width.TheVariants.{W1, W8, W32}
 use Rattle.guard_prog.specs.declared.draft.Draft.{Draft}

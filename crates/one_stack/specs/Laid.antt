@@ -1,6 +1,6 @@
 -- The tables of an application and a code.
 use Rattle.std.specs.Prelude.{◌≡◌, ℕ, ◌+◌, List, length, map}
-use Rattle.app_model.specs.declared.app.App.{App}
+use Rattle.application.specs.declared.app.App.{App}
 use Rattle.chk_base.specs.declared.word.Width.{Width}
 use Rattle.one_stack.specs.Built.{plan_of, room_of, table, widths_of}
 use Rattle.one_stack.specs.PlainCode.{plain_code}

@@ -1,8 +1,8 @@
 -- A small application and its code, by which the building is tried: a task activates one above it, and both end.
 use Rattle.std.specs.Prelude.{ℕ, ◌+◌, Bool, true, false, [], ◌∷◌, None}
-use Rattle.app_model.specs.declared.app.App.{App}
-use Rattle.app_model.specs.declared.app.Class.TheVariants.{Bcc1}
-use Rattle.app_model.specs.declared.app.Task.{Task}
+use Rattle.application.specs.declared.app.App.{App}
+use Rattle.application.specs.declared.app.Class.TheVariants.{Bcc1}
+use Rattle.application.specs.declared.app.Task.{Task}
 use Rattle.chk_base.specs.declared.expr.Expr.TheVariants.{Const}
 use Rattle.chk_base.specs.declared.place.Place.{Place}
 use Rattle.step_ir.specs.declared.code.Action.TheVariants.{Service}

@@ -1,6 +1,6 @@
 -- Where things stand in the program of an application, from tables of a few numbers.
 use Rattle.std.specs.Prelude.{ℕ, ◌+◌, ◌*◌, ◌≤◌, List, [], Some, slice_index}
-use Rattle.app_model.specs.declared.app.App.{App}
+use Rattle.application.specs.declared.app.App.{App}
 use Rattle.chk_base.specs.declared.word.Width.{Width}
 use Rattle.one_stack.specs.Built.{sum_below}
 use Rattle.one_stack.specs.Cells.{width_at}

@@ -1,7 +1,7 @@
 -- The task form, in which the program that is built is proved: no routine, no input, no `Schedule` and no section.
 use Rattle.std.specs.Prelude.{◌≡◌, ℕ, ◌+◌, ◌<◌, ◌≤◌, Bool, true, false, ◌&&◌, ◌==◌, nat_le, List, [], ◌∷◌, length, Option, Some, None, slice_get}
 use Rattle.std.specs.List.{list_all}
-use Rattle.app_model.specs.declared.app.App.{App}
+use Rattle.application.specs.declared.app.App.{App}
 use Rattle.chk_base.specs.declared.word.Width.TheVariants.{W32}
 use Rattle.chk_base.specs.Term.{Term, Const}
 use Rattle.chk_base.specs.Widths.{limit_of}

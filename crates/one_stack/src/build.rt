@@ -1,6 +1,6 @@
 // The guarded program of an application.
 ghost use Rattle.std.specs.Prelude.{◌≡◌, ℕ, ◌≤◌, true, IfOk, length};
-ghost use Rattle.app_model.specs.InOrder.{IsInOrder};
+ghost use Rattle.application.specs.InOrder.{IsInOrder};
 ghost use Rattle.guard_prog.specs.Drafts.{program_of};
 ghost use Rattle.one_stack.specs.BuildExact.{IsExact, NamesActors};
 ghost use Rattle.one_stack.specs.Built.{IsBuiltOf};
@@ -19,7 +19,7 @@ use crate::law::built_is_exact;
 use crate::laying::layout_of;
 use crate::start::start_of;
 use crate::starts::{first_of, starts_of};
-use app_model::app::App;
+use application::app::App;
 use chk_base::word::{Width, Word};
 use guard_prog::draft::Draft;
 use guard_prog::guarded::{Guarded, validate};

@@ -2,7 +2,7 @@
 ghost use Rattle.std.specs.Prelude.{◌≡◌, OnOk, OnErr, length, slice_get, [], ◌∷◌, ◌++◌};
 ghost use Rattle.std.specs.Option.{option_copied};
 
-use app_model::app::Entity;
+use application::app::Entity;
 use chk_base::word::Width;
 use std::alloc::{AllocError, Global};
 use std::marker::Model;

@@ -3,7 +3,7 @@ ghost use Rattle.std.specs.Prelude.{◌≡◌, ◌-◌, ◌≤◌, ◌<◌, ◌^
 ghost use Rattle.one_stack.specs.Labelled.{has_label, label_at, labels_of, most_in, most_of, point_with};
 
 use crate::label::{Label, Labels};
-use app_model::app::Entity;
+use application::app::Entity;
 use guard_prog::draft::{Alternative, Alternatives};
 use std::alloc::{AllocError, Global};
 

@@ -1,7 +1,7 @@
 // The program that is built runs as the one-stack machine does.
 ghost use Rattle.std.specs.Prelude.{◌≡◌, ℕ, ◌≤◌, true, List};
-ghost use Rattle.app_model.specs.declared.app.App.{App};
-ghost use Rattle.app_model.specs.InOrder.{IsInOrder};
+ghost use Rattle.application.specs.declared.app.App.{App};
+ghost use Rattle.application.specs.InOrder.{IsInOrder};
 ghost use Rattle.guard_prog.specs.declared.draft.Draft.{Draft};
 ghost use Rattle.guard_prog.specs.Drafts.{program_of};
 ghost use Rattle.guard_prog.specs.WellShaped.{IsWellShaped};

@@ -1,6 +1,6 @@
 // The layout of an application's program.
 ghost use Rattle.std.specs.Prelude.{◌≡◌, ◌+◌, ◌*◌, ◌≤◌, ◌==◌, if◌then◌else◌, IfOk, length, map};
-ghost use Rattle.app_model.specs.InOrder.{IsInOrder};
+ghost use Rattle.application.specs.InOrder.{IsInOrder};
 ghost use Rattle.one_stack.specs.Built.{sum_below, table};
 ghost use Rattle.one_stack.specs.Laid.{IsLaid, counts_of, tables_for};
 ghost use Rattle.step_ir.specs.Fits.{Fits, point_count};
@@ -10,7 +10,7 @@ ghost use Rattle.step_ir.specs.Setting.{setting_of};
 use crate::layout::Layout;
 use crate::levels::{level_at, level_count, limit_at};
 use crate::widths::code_widths;
-use app_model::app::App;
+use application::app::App;
 use std::alloc::{AllocError, Global};
 use step_ir::code::Code;
 use step_ir::law::{cells_within, sound_levels};

@@ -8,7 +8,7 @@ ghost use Rattle.one_stack.specs.Tables.{count_in, place_in, plan_in, room_in, s
 
 use crate::levels::{ceiling_at, level_at, level_count, limit_at, run_level_at};
 use crate::widths::put_slots;
-use app_model::app::{App, Task};
+use application::app::{App, Task};
 use chk_base::expr::Expr;
 use chk_base::word::{Width, Widths};
 use std::alloc::AllocError;

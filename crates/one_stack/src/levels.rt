@@ -3,8 +3,8 @@ ghost use Rattle.std.specs.Prelude.{◌≡◌, ◌+◌, ◌-◌, ◌≤◌, leng
 ghost use Rattle.std.specs.Option.{option_copied};
 ghost use Rattle.step_ir.specs.Setting.{highest_level, setting_of};
 
-use app_model::app::{App, Routine, Task};
-use app_model::levels::scheduler_ceiling;
+use application::app::{App, Routine, Task};
+use application::levels::scheduler_ceiling;
 
 fn task_at(app: &App, e: u8) -> Option<&Task>
     ensures { option_copied result ≡ slice_get app.now.tasks e }

@@ -10,7 +10,7 @@ ghost use Rattle.step_ir.specs.OneStackMachine as machine;
 ghost use Rattle.step_ir.specs.Setting.{foremost, started_from};
 
 use crate::layout::Layout;
-use app_model::app::Task;
+use application::app::Task;
 use std::alloc::{AllocError, Global};
 
 /// The task on the stack, and the fresh requests in order.

@@ -3,3 +3,4 @@ pub mod Checked
 pub mod Told
 pub mod Replies
 pub mod Verdicts
+pub mod Named

@@ -10,7 +10,7 @@ use Rattle.chk_base.specs.declared.desk.FetchFault.TheVariants.{TooLong}
 use Rattle.proof_check.specs.Certs.{IsCertOf}
 use Rattle.proof_check.specs.declared.cert.Cert.{Cert}
 use Rattle.app_generator.specs.Generated.{generated_c, generated_oil}
-use Rattle.app_model.specs.declared.app.App.{App}
+use Rattle.application.specs.declared.app.App.{App}
 use Rattle.command_words.specs.Asked.{IsAsked}
 use Rattle.command_words.specs.declared.asked.Asked.{Asked}
 use Rattle.command_words.specs.declared.asked.Asked.TheVariants as asked

@@ -1,7 +1,7 @@
 -- What the status of a command says.
 use Rattle.std.proofs.Common.{◌≡◌, ◌⊎◌, ℕ, List, Bool, true, false, Option, Some, None, Result, Ok, Err, inl, inr, refl, sym, subst, ap, ◌∙◌}
 use Rattle.app_generator.specs.Generated.{generated_c, generated_oil}
-use Rattle.app_model.specs.declared.app.App.{App}
+use Rattle.application.specs.declared.app.App.{App}
 use Rattle.chk_base.specs.Causes.{Rose}
 use Rattle.chk_base.specs.Desk.{DeskState}
 use Rattle.chk_base.specs.Sink.{SinkState}
@@ -14,10 +14,10 @@ use Rattle.decided_run.specs.declared.decision.Decision.{Decision}
 use Rattle.decided_run.specs.declared.decision.Decision.TheVariants as decision
 use Rattle.report.specs.declared.reports.CertReport.{CertReport}
 use Rattle.report.specs.declared.reports.CertReport.TheVariants as cert
-use Rattle.report.specs.declared.reports.ReplayFault.{ReplayFault}
-use Rattle.report.specs.declared.reports.ReplayFault.TheVariants as fault
-use Rattle.report.specs.declared.reports.Refusal.{Refusal}
-use Rattle.report.specs.declared.reports.Replayed.{Replayed}
+use Rattle.replay.specs.declared.run.ReplayFault.{ReplayFault}
+use Rattle.replay.specs.declared.run.ReplayFault.TheVariants as fault
+use Rattle.answers.specs.declared.refusal.Refusal.{Refusal}
+use Rattle.replay.specs.declared.run.Replayed.{Replayed}
 use Rattle.report.specs.declared.reports.WriteFault.{WriteFault}
 use Rattle.report.specs.Printing.{Prints}
 use Rattle.step_ir.specs.declared.code.Code.{Code}

@@ -5,7 +5,7 @@ use Rattle.chk_base.specs.Sink.{SinkState}
 use Rattle.command_words.specs.Asked.{AreNone, IsAsked}
 use Rattle.command_words.specs.declared.asked.Asked.{Asked}
 use Rattle.command_words.specs.declared.asked.Asked.TheVariants as asked
-use Rattle.report.specs.declared.reports.Refusal.{Refusal}
+use Rattle.answers.specs.declared.refusal.Refusal.{Refusal}
 use Rattle.report.specs.declared.reports.WriteFault as faults
 use Rattle.report.specs.Printing.{Prints}
 use Rattle.oschk_cmd.specs.declared.reply.Reply.{Reply}

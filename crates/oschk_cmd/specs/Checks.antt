@@ -9,30 +9,22 @@ use Rattle.proof_check.specs.Certs as certs
 use Rattle.proof_check.specs.Checks.{HasModel, answer_of, clauses_of}
 use Rattle.proof_check.specs.declared.cert.Cert.{Cert}
 use Rattle.proof_check.specs.declared.cert.CertFault.TheVariants as fault
-use Rattle.proof_check.specs.declared.cert.Verdict.{Verdict}
-use Rattle.proof_check.specs.declared.cert.Verdict.TheVariants as verdict
+use Rattle.answers.specs.declared.verdict.Verdict.TheVariants as verdict
 use Rattle.proof_check.specs.declared.check.CertAnswer.{CertAnswer}
 use Rattle.proof_check.specs.declared.check.CertAnswer.TheVariants as answer
 use Rattle.report.specs.declared.reports.CertReport.{CertReport}
 use Rattle.report.specs.declared.reports.CertReport.TheVariants as told
-use Rattle.report.specs.declared.reports.Refusal.{Refusal}
-use Rattle.report.specs.declared.reports.Refusal.TheVariants as why
-use Rattle.report.specs.declared.reports.Verdict as reports
-use Rattle.report.specs.declared.reports.Verdict.TheVariants as told_verdict
+use Rattle.answers.specs.declared.refusal.Refusal.{Refusal}
+use Rattle.answers.specs.declared.refusal.Refusal.TheVariants as why
 use Rattle.oschk_cmd.specs.declared.reply.Reply.{Reply}
 use Rattle.oschk_cmd.specs.declared.reply.Reply.TheVariants as reply
 use Rattle.oschk_cmd.specs.declared.status.Status.TheVariants.{Good, NotPermitted}
 use Rattle.oschk_cmd.specs.Replies.{check_status}
 use Rattle.oschk_cmd.specs.Fetched.{HasLongFile, HasText, cert_limit}
 
--- a certificate's verdict, and an answer, as they are reported
-abbrev pub verdict_told : Verdict → reports.Verdict
-verdict_told verdict.Holds = told_verdict.Holds
-verdict_told verdict.Fails = told_verdict.Fails
-verdict_told verdict.Undecided = told_verdict.Undecided
-
+-- an answer, as it is reported
 abbrev pub answer_told : CertAnswer → CertReport
-answer_told (answer.Good v) = told.Good (verdict_told v)
+answer_told (answer.Good v) = told.Good v
 answer_told (answer.BadLine number) = told.BadLine number
 answer_told answer.BadVerdict = told.BadVerdict
 

@@ -1,7 +1,7 @@
 -- The headline: what a verdict says of the texts that the words name, over every permitted schedule.
 use Rattle.std.specs.Prelude.{◌≡◌, ℕ, ◌≤◌, ◌^◌, ◌⊎◌, true, List, length, Option, None}
 use Rattle.app_generator.specs.Generated.{generated_c, generated_oil}
-use Rattle.app_model.specs.declared.app.App.{App}
+use Rattle.application.specs.declared.app.App.{App}
 use Rattle.bounded_check.specs.Verdicts.{NoneFails}
 use Rattle.cert_law.specs.Accepted.{IsAccepted}
 use Rattle.cert_text.specs.declared.front.Bounds.{Bounds}

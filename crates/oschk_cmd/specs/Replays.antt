@@ -3,17 +3,17 @@ use Rattle.std.specs.Prelude.{◌≡◌, ℕ, ◌⊎◌, List, Option, Some, Res
 use Rattle.chk_base.specs.Causes.{Rose}
 use Rattle.chk_base.specs.Desk.{DeskState, Fetch}
 use Rattle.chk_base.specs.declared.place.Place.{Place}
-use Rattle.app_model.specs.declared.app.App.{App}
+use Rattle.application.specs.declared.app.App.{App}
 use Rattle.command_words.specs.Asked.{IsReplay}
 use Rattle.command_words.specs.declared.asked.ReplayWords.{ReplayWords}
 use Rattle.replay.specs.Replaying.{IsRefused, events_for, last_failure}
 use Rattle.replay.specs.ScheduleText.{IsOneSchedule, IsWrong}
 use Rattle.replay.specs.declared.schedule.ScheduleFault.TheVariants.{Line}
-use Rattle.report.specs.declared.reports.Refusal.{Refusal}
-use Rattle.report.specs.declared.reports.Refusal.TheVariants as why
-use Rattle.report.specs.declared.reports.ReplayFault.{ReplayFault}
-use Rattle.report.specs.declared.reports.ReplayFault.TheVariants as fault
-use Rattle.report.specs.declared.reports.Replayed.{Replayed}
+use Rattle.answers.specs.declared.refusal.Refusal.{Refusal}
+use Rattle.answers.specs.declared.refusal.Refusal.TheVariants as why
+use Rattle.replay.specs.declared.run.ReplayFault.{ReplayFault}
+use Rattle.replay.specs.declared.run.ReplayFault.TheVariants as fault
+use Rattle.replay.specs.declared.run.Replayed.{Replayed}
 use Rattle.step_ir.specs.declared.code.Code.{Code}
 use Rattle.step_ir.specs.declared.event.Choice.{Choice}
 use Rattle.oschk_cmd.specs.declared.reply.Reply.{Reply}

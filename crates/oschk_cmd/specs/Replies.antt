@@ -4,11 +4,11 @@ use Rattle.decided_run.specs.declared.decision.Decision.{Decision}
 use Rattle.decided_run.specs.declared.decision.Decision.TheVariants as decision
 use Rattle.report.specs.declared.reports.CertReport.{CertReport}
 use Rattle.report.specs.declared.reports.CertReport.TheVariants as cert
-use Rattle.report.specs.declared.reports.ReplayFault.{ReplayFault}
-use Rattle.report.specs.declared.reports.ReplayFault.TheVariants as fault
-use Rattle.report.specs.declared.reports.Replayed.{Replayed}
-use Rattle.report.specs.declared.reports.Verdict.{Verdict}
-use Rattle.report.specs.declared.reports.Verdict.TheVariants as verdict
+use Rattle.replay.specs.declared.run.ReplayFault.{ReplayFault}
+use Rattle.replay.specs.declared.run.ReplayFault.TheVariants as fault
+use Rattle.replay.specs.declared.run.Replayed.{Replayed}
+use Rattle.answers.specs.declared.verdict.Verdict.{Verdict}
+use Rattle.answers.specs.declared.verdict.Verdict.TheVariants as verdict
 use Rattle.report.specs.declared.reports.WriteFault.{WriteFault}
 use Rattle.report.specs.PrintedTexts.{PlainReport, report_text}
 use Rattle.report.specs.PrintedTexts as report

@@ -1,14 +1,14 @@
 -- What is replied to the words of a run and of a made one, and why.
 use Rattle.std.specs.Prelude.{◌≡◌, ℕ, ◌≤◌, ◌^◌, ◌⊎◌, true, List, Option, Some, None}
 use Rattle.app_generator.specs.Generated.{generated_c, generated_oil}
-use Rattle.app_model.specs.declared.app.App.{App}
+use Rattle.application.specs.declared.app.App.{App}
 use Rattle.cert_text.specs.declared.front.Bounds.{Bounds}
 use Rattle.chk_base.specs.Desk.{DeskState}
 use Rattle.command_words.specs.declared.asked.MakeWords.{MakeWords}
 use Rattle.command_words.specs.declared.asked.RunWords.{RunWords}
 use Rattle.decided_run.specs.Decided.{HasPutFault, IsBegun, IsDecidedRun}
 use Rattle.one_stack.specs.TaskForm.{is_task_form}
-use Rattle.report.specs.declared.reports.Refusal.{Refusal}
+use Rattle.answers.specs.declared.refusal.Refusal.{Refusal}
 use Rattle.step_ir.specs.declared.code.Code.{Code}
 use Rattle.text_stages.specs.Prepared.{IsRunRefusal, IsTakenForRun}
 use Rattle.oschk_cmd.specs.declared.reply.Ran.{Ran}

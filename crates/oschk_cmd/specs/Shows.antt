@@ -3,7 +3,7 @@ use Rattle.std.specs.Prelude.{ℕ, ◌⊎◌, List, Option}
 use Rattle.chk_base.specs.Desk.{DeskState}
 use Rattle.command_words.specs.Asked.{IsShow}
 use Rattle.command_words.specs.declared.asked.ShowWords.{ShowWords}
-use Rattle.report.specs.declared.reports.Refusal.{Refusal}
+use Rattle.answers.specs.declared.refusal.Refusal.{Refusal}
 use Rattle.text_stages.specs.Prepared.{IsPrepared, IsRefusal}
 use Rattle.oschk_cmd.specs.declared.reply.Reply.{Reply}
 use Rattle.oschk_cmd.specs.declared.reply.Reply.TheVariants as reply

@@ -1,35 +1,25 @@
 // What is replied to the words of a check.
 ghost use Rattle.std.specs.Prelude.{◌≡◌, ◌≤◌, ◌^◌, length, true, IfOk, IfSome};
 ghost use Rattle.clause_form.specs.Literals.{is_within};
-ghost use Rattle.oschk_cmd.specs.Checks.{IsCheckReply, IsCertReply, IsCheckedReply, answer_told, verdict_told};
+ghost use Rattle.oschk_cmd.specs.Checks.{IsCheckReply, IsCertReply, IsCheckedReply, answer_told};
 ghost use Rattle.oschk_cmd.specs.Fit.{IsFit};
 
 use crate::reply::Reply;
 use chk_base::desk::{Desk, FetchFault};
 use chk_base::text::Text;
-use proof_check::cert::{Cert, CertFault, Verdict as CertVerdict, read_cert};
+use proof_check::cert::{Cert, CertFault, read_cert};
 use proof_check::check::{CertAnswer, check_cert};
-use report::reports::{CertReport, Refusal, Verdict};
+use report::reports::{CertReport, Refusal};
 use std::alloc::{AllocError, Global};
 
 /// The most bytes that a certificate may have.
 const LIMIT: u64 = 1_073_741_824;
 
-fn verdict_told(verdict: CertVerdict) -> Verdict
-    ensures { result ≡ verdict_told verdict }
-{
-    match verdict {
-        CertVerdict::Holds => Verdict::Holds,
-        CertVerdict::Fails => Verdict::Fails,
-        CertVerdict::Undecided => Verdict::Undecided,
-    }
-}
-
 fn answer_told(answer: CertAnswer) -> CertReport
     ensures { result ≡ answer_told answer }
 {
     match answer {
-        CertAnswer::Good(verdict) => CertReport::Good(verdict_told(verdict)),
+        CertAnswer::Good(verdict) => CertReport::Good(verdict),
         CertAnswer::BadLine(number) => CertReport::BadLine(number),
         CertAnswer::BadVerdict => CertReport::BadVerdict,
     }

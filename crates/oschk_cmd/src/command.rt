@@ -20,6 +20,7 @@ use chk_base::desk::Desk;
 use chk_base::sink::Sink;
 use chk_base::text::Words;
 use command_words::asked::{Asked, read_words};
+use name_law::law::entities_have_names;
 use report::writing::write_report;
 use std::alloc::Global;
 
@@ -101,7 +102,8 @@ pub fn oschk<D: Desk, S: Sink>(alloc: Global, words: &Words, desk: &mut D, out: 
     ensures files { AreFilesKept words.now (D.state desk.old) (D.state desk.new) }
     ensures current { IsCurrentKept words.now (D.state desk.old) (D.state desk.new) }
 {
-    // The call of a law does nothing: the proof takes what it ensures.
+    // The calls of laws do nothing: the proof takes what they ensure.
+    entities_have_names();
     certificates_are_good();
     match reply(alloc, words, desk) {
         Ok(reply) => write_reply(&reply, out),

@@ -1,19 +1,19 @@
 // What is replied to the words of a replay.
 ghost use Rattle.std.specs.Prelude.{◌≡◌, ◌≤◌, ◌<◌, ◌-◌, ◌^◌, length, IfSome};
-ghost use Rattle.app_model.specs.InOrder.{IsInOrder};
+ghost use Rattle.application.specs.InOrder.{IsInOrder};
 ghost use Rattle.step_ir.specs.Fits.{Fits};
 ghost use Rattle.oschk_cmd.specs.Replays.{IsPreparedReply, IsReplayReply, IsResultOf, IsScheduleReply};
 ghost use Rattle.oschk_cmd.specs.Fit.{IsFit};
 
 use crate::fetch::{LIMIT, fetch_both};
 use crate::reply::{Reply, Rerun};
-use app_model::app::App;
+use application::app::App;
 use chk_base::desk::{Desk, FetchFault};
 use chk_base::text::Text;
 use command_words::asked::ReplayWords;
-use replay::run::{ReplayFault as Fault, replay};
+use replay::run::{ReplayFault, Replayed, replay};
 use replay::schedule::{ScheduleFault, read_schedule};
-use report::reports::{Refusal, ReplayFault, Replayed};
+use report::reports::Refusal;
 use std::alloc::Global;
 use step_ir::code::Code;
 use step_ir::event::Choices;
@@ -33,12 +33,9 @@ fn result_of(
     ensures { IfSome result (IsResultOf app.now code.now choices.now) }
 {
     match replay(alloc, app, code, choices) {
-        Ok(done) => Some(Ok(Replayed {
-            events: done.events,
-            failure: done.failure,
-        })),
+        Ok(replayed) => Some(Ok(replayed)),
         Err(
-            Fault::NotPermitted {
+            ReplayFault::NotPermitted {
                 step,
                 state,
                 events,
@@ -48,7 +45,7 @@ fn result_of(
             state,
             events,
         })),
-        Err(Fault::Memory) => None,
+        Err(ReplayFault::Memory) => None,
     }
 }
 

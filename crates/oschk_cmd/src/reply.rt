@@ -5,7 +5,7 @@ ghost use Rattle.report.specs.PrintedTexts as printed;
 ghost use Rattle.oschk_cmd.specs.Replies.{check_status, decision_status, is_fault, replay_status, reply_status, report_of};
 
 use crate::status::Status;
-use app_model::app::App;
+use application::app::App;
 use decided_run::decision::Decision;
 use report::reports::{CertReport, Refusal, ReplayFault, Replayed, Report, Verdict};
 use step_ir::code::Code;

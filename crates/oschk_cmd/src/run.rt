@@ -1,7 +1,7 @@
 // What is replied to the words of a run, and of one whose texts are made.
 ghost use Rattle.std.specs.Prelude.{◌≡◌, ◌≤◌, length, IfOk, IfErr};
 ghost use Rattle.std.specs.Option.{option_copied};
-ghost use Rattle.app_model.specs.InOrder.{IsInOrder};
+ghost use Rattle.application.specs.InOrder.{IsInOrder};
 ghost use Rattle.step_ir.specs.Fits.{Fits};
 ghost use Rattle.oschk_cmd.specs.Fit.{IsFit};
 ghost use Rattle.oschk_cmd.specs.Runs.{AreUnwritten, IsBounded, IsMakeReply, IsMakeUnwritten, IsRunReply, IsRunReplyOf, IsRunUnwritten, IsTextsReply, IsUnwrittenOf};

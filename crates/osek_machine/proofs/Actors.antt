@@ -2,8 +2,8 @@
 use Rattle.std.proofs.Common.{◌≡◌, ◌≢◌, ℕ, zero, suc, ◌+◌, ◌<◌, Bool, true, false, ◌||◌, List, [], ◌∷◌, length, Option, Some, None, refl, sym, ap, subst, ◌∙◌, arith, if◌then◌else◌, ◌==◌}
 use Rattle.std.proofs.Math.Path.{fun_ext}
 use Rattle.std.proofs.lemmas.Bool.Decides.{nat_tests}
-use Rattle.app_model.specs.Levels.{has_number}
-use Rattle.app_model.specs.declared.app.App.{App}
+use Rattle.application.specs.Levels.{has_number}
+use Rattle.application.specs.declared.app.App.{App}
 use Rattle.osek_machine.specs.Faults.{first_or}
 use Rattle.osek_machine.specs.Held.{held_by, any_holds, AreHolders}
 use Rattle.osek_machine.specs.Kept.{Kept, IsKept, AreDescending, state_of, entities_of}

@@ -1,6 +1,6 @@
 -- A step counts at most one arrival.
 use Rattle.std.proofs.Common.{◌≡◌, ℕ, ◌+◌, ◌≤◌, Bool, true, false, List, [], ◌∷◌, Option, Some, None, option_map, refl, ap, ◌∙◌, arith, if◌then◌else◌}
-use Rattle.app_model.specs.declared.app.App.{App}
+use Rattle.application.specs.declared.app.App.{App}
 use Rattle.chk_base.specs.declared.place.Place.{Place}
 use Rattle.osek_machine.proofs.Deeds.{act_arrivals, reschedule_arrivals}
 use Rattle.osek_machine.specs.declared.machine.Outcome.{Outcome}

@@ -1,7 +1,7 @@
 -- A routine that arrives.
 use Rattle.std.proofs.Common.{◌≡◌, ℕ, ◌+◌, ◌<◌, ◌≤◌, Bool, true, false, ◌&&◌, List, [], ◌∷◌, length, Some, None, slice_set, slice_index, refl, sym, ap, ap₂, subst, ◌∙◌, arith, nat_lt, length-set, if◌then◌else◌}
 use Rattle.std.proofs.lemmas.Bool.Decides.{nat_tests}
-use Rattle.app_model.specs.declared.app.App.{App}
+use Rattle.application.specs.declared.app.App.{App}
 use Rattle.chk_base.specs.declared.place.Place.{Place}
 use Rattle.osek_machine.proofs.Actors.{actor_first}
 use Rattle.osek_machine.proofs.Deeds.{levels_low, told_over}

@@ -2,8 +2,8 @@
 use Rattle.std.proofs.Common.{◌≡◌, ◌≢◌, ℕ, zero, suc, ◌+◌, ◌<◌, ◌≤◌, Bool, true, false, List, [], ◌∷◌, ◌++◌, length, take, slice_get, slice_set, slice_index, refl, sym, ap, ap₂, subst, ◌∙◌, arith, if◌then◌else◌, append-nil, get_or-set_other, replicate, None}
 use Rattle.std.proofs.Math.Path.{fun_ext}
 use Rattle.std.proofs.lemmas.List.{take_all}
-use Rattle.app_model.specs.declared.app.App.{App}
-use Rattle.app_model.specs.declared.app.Task.{Task}
+use Rattle.application.specs.declared.app.App.{App}
+use Rattle.application.specs.declared.app.Task.{Task}
 use Rattle.chk_base.specs.Widths.{PlainWord}
 use Rattle.step_ir.specs.Points.{start_bits, start_words}
 use Rattle.osek_machine.specs.Kept.{Kept, state_of}

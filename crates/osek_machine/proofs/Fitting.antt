@@ -1,7 +1,7 @@
 -- A code that fits: what its points name is among its cells, which are few.
 use Rattle.std.proofs.Common.{◌≡◌, ℕ, ◌+◌, ◌<◌, ◌≤◌, List, [], ◌∷◌, length, Option, Some, None, slice_get, arith}
 use Rattle.std.proofs.lemmas.List.{length-map}
-use Rattle.app_model.specs.declared.app.App.{App}
+use Rattle.application.specs.declared.app.App.{App}
 use Rattle.chk_base.specs.Term.{Term}
 use Rattle.chk_base.specs.WordValue.{IsWithin}
 use Rattle.osek_machine.proofs.Laws.{AreCellsWithin}

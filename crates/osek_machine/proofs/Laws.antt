@@ -1,6 +1,6 @@
 -- What the laws of the scheduler say, as the lemmas here take it.
 use Rattle.std.proofs.Common.{◌≡◌, ℕ, ◌*◌, ◌<◌, ◌≤◌, true, List, [], ◌∷◌, length, Option, Some, None}
-use Rattle.app_model.specs.declared.app.Entity.{Entity}
+use Rattle.application.specs.declared.app.Entity.{Entity}
 use Rattle.chk_base.specs.Term.{Term}
 use Rattle.chk_base.specs.WordValue.{IsWithin}
 use Rattle.step_ir.specs.declared.code.Code.{Code}

@@ -1,7 +1,7 @@
 -- The step of an entity's point.
 use Rattle.std.proofs.Common.{◌≡◌, ℕ, List, length, Some, slice_get, option_map, sym, ap, subst₂, ◌∙◌}
 use Rattle.std.proofs.lemmas.Option.{slice_get-map}
-use Rattle.app_model.specs.declared.app.App.{App}
+use Rattle.application.specs.declared.app.App.{App}
 use Rattle.chk_base.specs.Widths.{PlainWord}
 use Rattle.osek_machine.proofs.Fitting.{point_within}
 use Rattle.osek_machine.proofs.Laws.{AreCellsWithin}

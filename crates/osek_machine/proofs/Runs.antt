@@ -1,6 +1,6 @@
 -- Runs that go on by one choice.
 use Rattle.std.proofs.Common.{◌≡◌, ℕ, Bool, true, false, List, [], ◌∷◌, ◌++◌, Option, Some, None, refl, sym, ap, subst, ◌∙◌}
-use Rattle.app_model.specs.declared.app.App.{App}
+use Rattle.application.specs.declared.app.App.{App}
 use Rattle.osek_machine.specs.declared.machine.Outcome.{Outcome}
 use Rattle.osek_machine.specs.declared.machine.Outcome.TheVariants as answer
 use Rattle.osek_machine.specs.Kept.{Kept, state_of}

@@ -2,10 +2,10 @@
 use Rattle.std.proofs.Common.{◌≡◌, ℕ, ◌-◌, ◌<◌, ◌≤◌, Bool, true, false, not, ◌&&◌, List, [], ◌∷◌, length, Option, Some, None, slice_get, slice_set, slice_index, refl, sym, ap, subst, ◌∙◌, arith, nat_le, if◌then◌else◌, ◌==◌}
 use Rattle.std.proofs.lemmas.Bool.Decides.{nat_tests}
 use Rattle.std.proofs.lemmas.Option.{slice_get_within, get_or_from_slice_get}
-use Rattle.app_model.specs.InOrder.{IsInOrder, IsTaskInOrder}
-use Rattle.app_model.specs.declared.app.App.{App}
-use Rattle.app_model.specs.declared.app.Routine.{Routine}
-use Rattle.app_model.specs.declared.app.Task.{Task}
+use Rattle.application.specs.InOrder.{IsInOrder, IsTaskInOrder}
+use Rattle.application.specs.declared.app.App.{App}
+use Rattle.application.specs.declared.app.Routine.{Routine}
+use Rattle.application.specs.declared.app.Task.{Task}
 use Rattle.osek_machine.proofs.Actors.{actor_first}
 use Rattle.osek_machine.proofs.States.{index_set}
 use Rattle.osek_machine.specs.Faults.{first_or}

@@ -1,7 +1,7 @@
 -- The start of a machine, task by task.
 use Rattle.std.specs.Prelude.{◌≡◌, ℕ, ◌≤◌, Bool, false, take, Option, Some, None, slice_get, slice_index}
-use Rattle.app_model.specs.declared.app.App.{App}
-use Rattle.app_model.specs.declared.app.Task.{Task}
+use Rattle.application.specs.declared.app.App.{App}
+use Rattle.application.specs.declared.app.Task.{Task}
 use Rattle.osek_machine.specs.Kept.{Kept, state_of}
 use Rattle.step_ir.specs.declared.code.Code.{Code}
 use Rattle.step_ir.specs.Points.{start_bits}

@@ -1,6 +1,6 @@
 -- At which input an application stands.
 use Rattle.std.specs.Prelude.{ℕ, Option, Some, None, if◌then◌else◌, slice_get}
-use Rattle.app_model.specs.declared.app.App.{App}
+use Rattle.application.specs.declared.app.App.{App}
 use Rattle.osek_machine.specs.Within.{input_cell}
 use Rattle.step_ir.specs.declared.code.Code.{Code}
 use Rattle.step_ir.specs.Points.{PlainPoint, points_in}

@@ -1,7 +1,7 @@
 -- What a machine keeps, as plain data, and the scheduler's state that it stands for.
 use Rattle.std.specs.Prelude.{◌≡◌, ℕ, ◌+◌, ◌<◌, ◌≤◌, Bool, true, List, [], ◌∷◌, length, Option, Some, None, slice_index, ◌==◌, if◌then◌else◌}
-use Rattle.app_model.specs.declared.app.App.{App}
-use Rattle.app_model.specs.InOrder.{IsInOrder}
+use Rattle.application.specs.declared.app.App.{App}
+use Rattle.application.specs.InOrder.{IsInOrder}
 use Rattle.chk_base.specs.Widths.{PlainWord}
 use Rattle.osek_machine.specs.CellWords.{widths, bits}
 use Rattle.osek_machine.specs.declared.held.Holding.{Holding}

@@ -1,7 +1,7 @@
 -- Where a machine stands, what it shows, and what it answers to a choice.
 use Rattle.std.specs.Prelude.{◌≡◌, ℕ, Bool, true, false, List, [], ◌∷◌, ◌++◌, Option, Some, None}
-use Rattle.app_model.specs.declared.app.App.{App}
-use Rattle.app_model.specs.declared.app.Entity.{Entity}
+use Rattle.application.specs.declared.app.App.{App}
+use Rattle.application.specs.declared.app.Entity.{Entity}
 use Rattle.osek_machine.specs.declared.machine.Outcome.{Outcome}
 use Rattle.osek_machine.specs.declared.machine.Outcome.TheVariants as answer
 use Rattle.osek_machine.specs.declared.machine.StateView.{StateView}

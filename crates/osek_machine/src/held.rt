@@ -4,7 +4,7 @@ ghost use Rattle.osek_machine.specs.Held.{held_by, last_in, any_holds, IsFirstOf
 ghost use Rattle.step_ir.specs.Setting.{current, setting_of};
 
 use crate::levels::{ceiling_at, run_level_at};
-use app_model::app::App;
+use application::app::App;
 
 /// An entity that holds a resource.
 #[derive(Clone, Copy)]

@@ -1,6 +1,6 @@
 // The machine: it keeps the state of the scheduler, and makes its steps without taking memory.
 ghost use Rattle.std.specs.Prelude.{◌≡◌, None, Some, true, false, ◌<◌, ◌≤◌, ◌+◌, ◌-◌, ◌^◌, ◌∷◌, [], IfOk, length, slice_index, slice_set, nat_le};
-ghost use Rattle.app_model.specs.InOrder.{IsInOrder};
+ghost use Rattle.application.specs.InOrder.{IsInOrder};
 ghost use Rattle.osek_machine.specs.Beginning.{starts_at};
 ghost use Rattle.osek_machine.specs.CellWords.{bits};
 ghost use Rattle.osek_machine.specs.Changing.{Changes, IsDeed, IsFinished, IsServable};
@@ -32,7 +32,7 @@ use crate::perform::Performed;
 use crate::points::{input_at, perform_at, place_at, point_number};
 use crate::ready::{Waiting, put_first, take_highest};
 use crate::starts::start_cells;
-use app_model::app::{App, Entity};
+use application::app::{App, Entity};
 use chk_base::cells::Cells;
 use chk_base::place::Place;
 use chk_base::word::Word;
@@ -41,7 +41,7 @@ use std::marker::Model;
 use step_ir::code::Code;
 use step_ir::event::{Choice, Event, EventAction, Failure, Next, Section, Service};
 use step_ir::law::{
-    few_numbers, first_entries, same_traces_of_codes, served_services, sound_levels,
+    codes_tell_no_failures, few_numbers, first_entries, served_services, sound_levels,
 };
 
 /// The answer to a choice: an event, the event of a failure, by which the machine is stopped, or nothing, where the choice isn't
@@ -717,7 +717,7 @@ impl<'a> Machine<'a> {
         requires up { self.old.stopped ≡ false }
         ensures { IsStep (choice_of word) self.old result self.new }
     {
-        same_traces_of_codes();
+        codes_tell_no_failures();
         let Some(e) = self.actor() else {
             return Outcome::Refused;
         };

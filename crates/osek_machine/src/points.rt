@@ -10,7 +10,7 @@ ghost use Rattle.step_ir.specs.Points.{points_in, points_of};
 ghost use Rattle.step_ir.specs.PointStep.{behaviour_of};
 
 use crate::perform::{Performed, perform};
-use app_model::app::App;
+use application::app::App;
 use chk_base::cells::Cells;
 use chk_base::place::Place;
 use chk_base::word::Word;

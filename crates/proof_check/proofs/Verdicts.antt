@@ -17,8 +17,8 @@ use Rattle.proof_check.specs.Answers.{Checked, accepts, step_of, after}
 use Rattle.proof_check.specs.declared.checker.Step.{Step}
 use Rattle.proof_check.specs.declared.checker.Step.TheVariants.{Good, Done, Bad}
 use Rattle.proof_check.specs.declared.cert.Cert.{Cert}
-use Rattle.proof_check.specs.declared.cert.Verdict.{Verdict}
-use Rattle.proof_check.specs.declared.cert.Verdict.TheVariants as verdicts
+use Rattle.answers.specs.declared.verdict.Verdict.{Verdict}
+use Rattle.answers.specs.declared.verdict.Verdict.TheVariants as verdicts
 use Rattle.proof_check.specs.declared.check.CertAnswer.TheVariants as answers
 use Rattle.proof_check.specs.Checks.{first_bad, is_model, clauses_of, fits, answer_by, answer_of, HasModel}
 use Rattle.proof_check.proofs.Getting.{drop_get, get_past}

@@ -16,8 +16,8 @@ use Rattle.cert_form.specs.Answers.{are_bytes}
 use Rattle.proof_check.specs.declared.cert.Cert.{Cert}
 use Rattle.proof_check.specs.declared.cert.CertFault.{CertFault}
 use Rattle.proof_check.specs.declared.cert.CertFault.TheVariants as faults
-use Rattle.proof_check.specs.declared.cert.Verdict.{Verdict}
-use Rattle.proof_check.specs.declared.cert.Verdict.TheVariants.{Holds, Fails, Undecided}
+use Rattle.answers.specs.declared.verdict.Verdict.{Verdict}
+use Rattle.answers.specs.declared.verdict.Verdict.TheVariants.{Holds, Fails, Undecided}
 
 -- the verdict's word
 abbrev pub verdict_of : Ending → Verdict

@@ -6,8 +6,8 @@ use Rattle.clause_form.specs.ClauseTruth.{are_true, values_of}
 use Rattle.clause_form.specs.DerivedLine.{is_derived, ends_empty}
 use Rattle.clause_form.specs.LearnedLine.{has_empty}
 use Rattle.proof_check.specs.declared.cert.Cert.{Cert}
-use Rattle.proof_check.specs.declared.cert.Verdict.{Verdict}
-use Rattle.proof_check.specs.declared.cert.Verdict.TheVariants.{Holds, Fails, Undecided}
+use Rattle.answers.specs.declared.verdict.Verdict.{Verdict}
+use Rattle.answers.specs.declared.verdict.Verdict.TheVariants.{Holds, Fails, Undecided}
 use Rattle.proof_check.specs.declared.check.CertAnswer.{CertAnswer}
 use Rattle.proof_check.specs.declared.check.CertAnswer.TheVariants.{Good, BadLine, BadVerdict}
 

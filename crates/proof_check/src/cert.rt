@@ -3,6 +3,7 @@ ghost use Rattle.std.specs.Prelude.{◌≡◌, ◌≤◌, ◌^◌, length, true,
 ghost use Rattle.clause_form.specs.Literals.{is_within};
 ghost use Rattle.proof_check.specs.Certs.{HasParts, IsCertOf, IsRefusal, outcome_model, outcome_verdict};
 
+pub use answers::verdict::Verdict;
 use cert_form::ending::Outcome;
 use cert_form::reading::{Parts, Stop, read, strange_byte};
 use chk_base::place::{Place, place_of};
@@ -12,14 +13,6 @@ use clause_form::clause::Clause;
 use clause_form::formula::Formula;
 use clause_form::line::Log;
 use std::alloc::Global;
-
-/// What a certificate says: that no run fails, that the model is one that fails, or that the budget didn't suffice.
-#[derive(Clone, Copy, Debug, PartialEq, Eq)]
-pub enum Verdict {
-    Holds,
-    Fails,
-    Undecided,
-}
 
 /// The parts of a certificate that its check needs. Its bounds, labels, depths and turns are read and not kept.
 #[derive(Drop)]

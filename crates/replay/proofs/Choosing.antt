@@ -1,9 +1,9 @@
 -- A line spells at most one choice.
 use Rattle.std.proofs.Common.{◌≡◌, ◌≢◌, ℕ, ◌<◌, List, [], ◌∷◌, ◌++◌, Option, Some, None, IfNone, codes, refl, sym, ap, ◌∙◌, arith}
 use Rattle.std.proofs.lemmas.List.{append_cancel_left}
-use Rattle.app_model.specs.declared.app.App.{App}
-use Rattle.app_model.specs.declared.app.Entity.{Entity}
-use Rattle.app_model.specs.InOrder.{IsInOrder}
+use Rattle.application.specs.declared.app.App.{App}
+use Rattle.application.specs.declared.app.Entity.{Entity}
+use Rattle.application.specs.InOrder.{IsInOrder}
 use Rattle.chk_base.specs.Widths.{PlainWord, limit_of}
 use Rattle.replay.specs.declared.value.ValueType.{ValueType}
 use Rattle.replay.specs.ScheduleText.{HasName, HasValue, IsNamed, IsValue, Spells}

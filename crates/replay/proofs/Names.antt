@@ -3,10 +3,10 @@ use Rattle.std.proofs.Common.{◌≡◌, ℕ, zero, suc, ◌+◌, ◌<◌, ◌�
 use Rattle.std.proofs.Math.Nat.{eq-or-lt_of_le}
 use Rattle.std.proofs.lemmas.List.Elements.{Contains-append_left}
 use Rattle.std.proofs.lemmas.Option.{get_or_from_slice_get, slice_get-map, slice_get_within}
-use Rattle.app_model.specs.declared.app.App.{App}
-use Rattle.app_model.specs.declared.app.Entity.{Entity}
-use Rattle.app_model.specs.declared.app.Routine.{Routine}
-use Rattle.app_model.specs.InOrder.{AreDistinct, IsInOrder}
+use Rattle.application.specs.declared.app.App.{App}
+use Rattle.application.specs.declared.app.Entity.{Entity}
+use Rattle.application.specs.declared.app.Routine.{Routine}
+use Rattle.application.specs.InOrder.{AreDistinct, IsInOrder}
 use Rattle.replay.specs.ScheduleText.{IsNamed}
 
 distinct_left : (xs ys : List (List ℕ)) → AreDistinct (xs ++ ys) → AreDistinct xs

@@ -1,9 +1,9 @@
 -- The small application is in order, and its code fits it.
 use Rattle.std.proofs.Common.{◌≡◌, ℕ, zero, suc, ◌<◌, ◌≤◌, false, List, [], ◌∷◌, length, map, All, Option, Some, None, slice_get, refl, ap, subst, arith}
 use Rattle.std.specs.Prelude.{slice_index_or}
-use Rattle.app_model.specs.declared.app.App.{App}
-use Rattle.app_model.specs.declared.app.Class.TheVariants.{Bcc1}
-use Rattle.app_model.specs.InOrder.{IsInOrder, IsTaskInOrder, IsRoutineInOrder, AreDistinct, names_of}
+use Rattle.application.specs.declared.app.App.{App}
+use Rattle.application.specs.declared.app.Class.TheVariants.{Bcc1}
+use Rattle.application.specs.InOrder.{IsInOrder, IsTaskInOrder, IsRoutineInOrder, AreDistinct, names_of}
 use Rattle.chk_base.specs.declared.word.Width.TheVariants.{W8}
 use Rattle.chk_base.specs.Widths.{limit_of}
 use Rattle.replay.proofs.Choosing.{first_byte}

@@ -1,6 +1,6 @@
 -- Replays: the scheduler's events for a list of choices, and the first choice that isn't permitted.
 use Rattle.std.specs.Prelude.{◌≡◌, ℕ, ◌+◌, List, [], ◌∷◌, ◌++◌, length, Option, Some, None}
-use Rattle.app_model.specs.declared.app.App.{App}
+use Rattle.application.specs.declared.app.App.{App}
 use Rattle.osek_machine.specs.declared.machine.Outcome.{Outcome}
 use Rattle.osek_machine.specs.declared.machine.Outcome.TheVariants as answer
 use Rattle.osek_machine.specs.declared.machine.StateView.{StateView}

@@ -1,9 +1,9 @@
 -- Schedule texts: which choices the lines of a text spell.
 use Rattle.std.specs.Prelude.{◌≡◌, ℕ, ◌+◌, ◌<◌, Bool, List, [], ◌∷◌, ◌++◌, length, Option, Some, None, if◌then◌else◌, slice_get, codes, option_map}
 use Rattle.std.specs.Fmt.{signed_decimal}
-use Rattle.app_model.specs.declared.app.App.{App}
-use Rattle.app_model.specs.declared.app.Entity.{Entity}
-use Rattle.app_model.specs.declared.app.Routine.{Routine}
+use Rattle.application.specs.declared.app.App.{App}
+use Rattle.application.specs.declared.app.Entity.{Entity}
+use Rattle.application.specs.declared.app.Routine.{Routine}
 use Rattle.chk_base.specs.declared.place.Place.{Place}
 use Rattle.chk_base.specs.declared.word.Width.TheVariants.{W32}
 use Rattle.chk_base.specs.Places.{is_line_feed, place_after}

@@ -1,10 +1,10 @@
 // Replays: the scheduler's events for a list of choices.
 ghost use Rattle.std.specs.Prelude.{◌≡◌, Some, ◌<◌, ◌-◌, ◌^◌, IfOk, IfErr, length};
-ghost use Rattle.app_model.specs.InOrder.{IsInOrder};
+ghost use Rattle.application.specs.InOrder.{IsInOrder};
 ghost use Rattle.step_ir.specs.Fits.{Fits};
 ghost use Rattle.replay.specs.Replaying.{IsCause, events_for, failure_of, last_failure, told};
 
-use app_model::app::App;
+use application::app::App;
 use osek_machine::machine::{Machine, Outcome, StateView};
 use std::alloc::{AllocError, Global};
 use step_ir::code::Code;

@@ -1,15 +1,15 @@
 // Schedule texts.
 ghost use Rattle.std.specs.Prelude.{◌≡◌, ◌≢◌, ℕ, ◌≤◌, ◌++◌, List, not, drop, IfOk, IfErr, IfSome, IfNone, MatchOption, length};
 ghost use Rattle.std.specs.List.{prefix_len};
-ghost use Rattle.app_model.specs.InOrder.{IsInOrder};
+ghost use Rattle.application.specs.InOrder.{IsInOrder};
 ghost use Rattle.chk_base.specs.Places.{is_line_feed};
 ghost use Rattle.replay.specs.ScheduleText.{IsNamed, IsOneSchedule, IsWrong, Spells};
 ghost use Rattle.step_ir.specs.declared.event.Choice.{Choice as Chosen};
-ghost use Rattle.app_model.specs.declared.app.Entity.{Entity as Named};
+ghost use Rattle.application.specs.declared.app.Entity.{Entity as Named};
 ghost use Rattle.step_ir.specs.Fits.{Fits};
 
 use crate::value::{ValueType, type_in, word_in};
-use app_model::app::{App, Entity};
+use application::app::{App, Entity};
 use chk_base::place::{Place, place_of};
 use chk_base::text::Text;
 use osek_machine::machine::Machine;

@@ -2,8 +2,8 @@
 use Rattle.std.specs.Prelude.{ℕ, List, ◌++◌, codes}
 use Rattle.report.specs.declared.reports.CertReport.{CertReport}
 use Rattle.report.specs.declared.reports.CertReport.TheVariants as answer
-use Rattle.report.specs.declared.reports.Verdict.{Verdict}
-use Rattle.report.specs.declared.reports.Verdict.TheVariants as verdict
+use Rattle.answers.specs.declared.verdict.Verdict.{Verdict}
+use Rattle.answers.specs.declared.verdict.Verdict.TheVariants as verdict
 use Rattle.report.specs.Lines.{line, counted}
 
 -- the verdict of a certificate that is good

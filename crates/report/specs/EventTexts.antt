@@ -1,7 +1,7 @@
 -- The lines of events.
 use Rattle.std.specs.Prelude.{ℕ, Bool, true, false, List, [], ◌++◌, Option, Some, None, slice_get, unwrap_or, codes, decimal}
 use Rattle.std.specs.Fmt.{signed_decimal}
-use Rattle.app_model.specs.declared.app.App.{App}
+use Rattle.application.specs.declared.app.App.{App}
 use Rattle.chk_base.specs.Widths.{PlainWord, reading_of}
 use Rattle.step_ir.specs.declared.code.CellName.{CellName}
 use Rattle.step_ir.specs.declared.code.Code.{Code}

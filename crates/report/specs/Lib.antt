@@ -1,5 +1,6 @@
 pub mod Lines
 pub mod EventTexts
+pub mod Pieces
 pub mod RefusalTexts
 pub mod CheckTexts
 pub mod RunTexts

@@ -1,8 +1,8 @@
 -- Lines, and what several texts have in common.
 use Rattle.std.specs.Prelude.{ℕ, zero, suc, ◌+◌, ◌-◌, List, [], ◌∷◌, ◌++◌, length, map, Option, Some, None, slice_get, unwrap_or, codes, decimal}
-use Rattle.app_model.specs.declared.app.App.{App}
-use Rattle.app_model.specs.declared.app.Class.{Class}
-use Rattle.app_model.specs.declared.app.Class.TheVariants as class
+use Rattle.application.specs.declared.app.App.{App}
+use Rattle.application.specs.declared.app.Class.{Class}
+use Rattle.application.specs.declared.app.Class.TheVariants as class
 use Rattle.chk_base.specs.declared.place.Place.{Place}
 use Rattle.step_ir.specs.declared.event.Event.{Event}
 use Rattle.step_ir.specs.declared.event.Failure.{Failure}

@@ -1,16 +1,16 @@
 -- The text of each report.
 use Rattle.std.specs.Prelude.{ℕ, List, Option, Result, codes}
 use Rattle.std.specs.Option.{option_copied}
-use Rattle.app_model.specs.declared.app.App.{App}
+use Rattle.application.specs.declared.app.App.{App}
 use Rattle.step_ir.specs.declared.code.Code.{Code}
 use Rattle.step_ir.specs.declared.event.Choice.{Choice}
 use Rattle.report.specs.declared.reports.CertReport.{CertReport}
-use Rattle.report.specs.declared.reports.Refusal.{Refusal}
-use Rattle.report.specs.declared.reports.ReplayFault.{ReplayFault}
-use Rattle.report.specs.declared.reports.Replayed.{Replayed}
+use Rattle.answers.specs.declared.refusal.Refusal.{Refusal}
+use Rattle.replay.specs.declared.run.ReplayFault.{ReplayFault}
+use Rattle.replay.specs.declared.run.Replayed.{Replayed}
 use Rattle.report.specs.declared.reports.Report.{Report}
 use Rattle.report.specs.declared.reports.Report.TheVariants as of
-use Rattle.report.specs.declared.reports.Verdict.{Verdict}
+use Rattle.answers.specs.declared.verdict.Verdict.{Verdict}
 use Rattle.report.specs.CheckTexts.{check_text}
 use Rattle.report.specs.Lines.{line}
 use Rattle.report.specs.RefusalTexts.{refusal_text}

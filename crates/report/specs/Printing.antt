@@ -2,8 +2,8 @@
 use Rattle.std.specs.Prelude.{◌≡◌, ℕ, List, take, Result, OnOk, OnErr, option_map}
 use Rattle.chk_base.specs.Causes.{HasCause, any_error}
 use Rattle.chk_base.specs.Sink.{SinkState, followed_by}
-use Rattle.app_model.specs.declared.app.App.{App}
-use Rattle.app_model.specs.InOrder.{IsInOrder}
+use Rattle.application.specs.declared.app.App.{App}
+use Rattle.application.specs.InOrder.{IsInOrder}
 use Rattle.step_ir.specs.declared.code.Code.{Code}
 use Rattle.step_ir.specs.Fits.{Fits}
 use Rattle.report.specs.declared.reports.WriteFault.{WriteFault}

@@ -1,8 +1,8 @@
 -- The lines of refusals.
 use Rattle.std.specs.Prelude.{ℕ, List, ◌++◌, codes}
 use Rattle.chk_base.specs.declared.place.Place.{Place}
-use Rattle.report.specs.declared.reports.Refusal.{Refusal}
-use Rattle.report.specs.declared.reports.Refusal.TheVariants as why
+use Rattle.answers.specs.declared.refusal.Refusal.{Refusal}
+use Rattle.answers.specs.declared.refusal.Refusal.TheVariants as why
 use Rattle.report.specs.Lines.{line, counted, place_text}
 
 -- a line that ends in a place

@@ -1,14 +1,14 @@
 -- The report of a replay.
 use Rattle.std.specs.Prelude.{ℕ, Bool, true, false, List, [], ◌++◌, Option, Some, None, Result, Ok, Err, codes}
-use Rattle.app_model.specs.declared.app.App.{App}
-use Rattle.app_model.specs.declared.app.Entity.{Entity}
+use Rattle.application.specs.declared.app.App.{App}
+use Rattle.application.specs.declared.app.Entity.{Entity}
 use Rattle.osek_machine.specs.declared.machine.StateView.{StateView}
 use Rattle.step_ir.specs.declared.code.Code.{Code}
 use Rattle.step_ir.specs.declared.event.Event.{Event}
 use Rattle.step_ir.specs.declared.event.Failure.{Failure}
-use Rattle.report.specs.declared.reports.ReplayFault.{ReplayFault}
-use Rattle.report.specs.declared.reports.ReplayFault.TheVariants as fault
-use Rattle.report.specs.declared.reports.Replayed.{Replayed}
+use Rattle.replay.specs.declared.run.ReplayFault.{ReplayFault}
+use Rattle.replay.specs.declared.run.ReplayFault.TheVariants as fault
+use Rattle.replay.specs.declared.run.Replayed.{Replayed}
 use Rattle.report.specs.EventTexts.{event_lines}
 use Rattle.report.specs.Lines.{line, counted, entity_name, failure_at}
 

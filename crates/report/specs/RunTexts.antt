@@ -1,7 +1,7 @@
 -- The report of a run.
 use Rattle.std.specs.Prelude.{ℕ, Bool, false, List, [], ◌++◌, Option, Some, None, slice_get, codes}
 use Rattle.std.specs.Fmt.{signed_decimal}
-use Rattle.app_model.specs.declared.app.App.{App}
+use Rattle.application.specs.declared.app.App.{App}
 use Rattle.chk_base.specs.Widths.{reading_of}
 use Rattle.step_ir.specs.declared.code.CellName.{CellName}
 use Rattle.step_ir.specs.declared.code.Code.{Code}
@@ -13,9 +13,9 @@ use Rattle.step_ir.specs.declared.event.EventAction.TheVariants as action
 use Rattle.step_ir.specs.declared.event.Failure.{Failure}
 use Rattle.step_ir.specs.Fits.{point_count}
 use Rattle.step_ir.specs.Points.{cells_of}
-use Rattle.report.specs.declared.reports.Replayed.{Replayed}
-use Rattle.report.specs.declared.reports.Verdict.{Verdict}
-use Rattle.report.specs.declared.reports.Verdict.TheVariants as verdict
+use Rattle.replay.specs.declared.run.Replayed.{Replayed}
+use Rattle.answers.specs.declared.verdict.Verdict.{Verdict}
+use Rattle.answers.specs.declared.verdict.Verdict.TheVariants as verdict
 use Rattle.report.specs.EventTexts.{event_lines}
 use Rattle.report.specs.Lines.{line, each, counted, entity_name, failure_at, class_text}
 

@@ -1,11 +1,11 @@
 -- The report of levels, ceilings, counts and notes.
 use Rattle.std.specs.Prelude.{ℕ, Bool, true, false, List, [], ◌++◌, length, slice_get, codes}
-use Rattle.app_model.specs.declared.app.App.{App}
-use Rattle.app_model.specs.declared.app.Note.{Note}
-use Rattle.app_model.specs.declared.app.Resource.{Resource}
-use Rattle.app_model.specs.declared.app.Routine.{Routine}
-use Rattle.app_model.specs.declared.app.Task.{Task}
-use Rattle.app_model.specs.Levels.{highest_task_level}
+use Rattle.application.specs.declared.app.App.{App}
+use Rattle.application.specs.declared.app.Note.{Note}
+use Rattle.application.specs.declared.app.Resource.{Resource}
+use Rattle.application.specs.declared.app.Routine.{Routine}
+use Rattle.application.specs.declared.app.Task.{Task}
+use Rattle.application.specs.Levels.{highest_task_level}
 use Rattle.step_ir.specs.declared.code.Code.{Code}
 use Rattle.step_ir.specs.Points.{points_of}
 use Rattle.report.specs.Lines.{line, each, counted, class_text, place_text}

@@ -7,40 +7,27 @@ ghost use Rattle.report.specs.Lines.{code_text, counted, entity_name, failure_te
 ghost use Rattle.report.specs.Printing.{Prints};
 ghost use Rattle.step_ir.specs.Points.{cells_of};
 
-use crate::names::{cell_name, put_call, put_entity, put_resource};
-use crate::pieces::{put, put_counted, put_number, put_reading, put_text};
+use crate::names::{cell_name, entity_name, put_call, resource_name};
+use crate::pieces::{Piece, put, put_all};
 use crate::reports::WriteFault;
-use app_model::app::{App, Entity};
+use application::app::{App, Entity};
 use chk_base::sink::Sink;
 use chk_base::word::Word;
 use step_ir::code::{CellName, Code};
 use step_ir::event::{EventAction, Failure, Service};
 
-fn put_brackets<S: Sink>(out: &mut S, element: u8) -> Result<(), WriteFault>
-    ensures { Prints (S.state out.old) (S.state out.new) (element_text (Some element)) result }
-{
-    put(out, b"[")?;
-    put_number(out, element as u64)?;
-    put(out, b"]")
-}
-
-#[tactic(auto, using(crate::proofs::Printing::prints_nothing))]
-fn put_element<S: Sink>(out: &mut S, element: Option<u8>) -> Result<(), WriteFault>
-    ensures { Prints (S.state out.old) (S.state out.new) (element_text element) result }
-{
-    match element {
-        Some(element) => put_brackets(out, element),
-        None => Ok(()),
-    }
-}
-
 fn put_value<S: Sink>(out: &mut S, name: &CellName, value: Word) -> Result<(), WriteFault>
     ensures { Prints (S.state out.old) (S.state out.new) (value_text (Some name.now) value) result }
 {
-    put_text(out, &name.text)?;
-    put_element(out, name.element)?;
-    put(out, b"=")?;
-    put_reading(out, value, name.signed)
+    put_all(
+        out,
+        &[
+            Piece::Text(&name.text),
+            Piece::Element(name.element),
+            Piece::Bytes(b"="),
+            Piece::Reading(value, name.signed),
+        ],
+    )
 }
 
 // The value of the cell with this number.
@@ -63,8 +50,7 @@ fn put_cell<S: Sink>(
 ) -> Result<(), WriteFault>
     ensures { Prints (S.state out.old) (S.state out.new) (cell_text word.now code.now cell value) result }
 {
-    put(out, word)?;
-    put(out, b" ")?;
+    put_all(out, &[Piece::Bytes(word), Piece::Bytes(b" ")])?;
     put_value_in(out, code, cell, value)
 }
 
@@ -97,16 +83,23 @@ fn put_service_word<S: Sink>(out: &mut S, service: Service) -> Result<(), WriteF
 fn put_task_after<S: Sink>(out: &mut S, app: &App, task: Entity) -> Result<(), WriteFault>
     ensures { Prints (S.state out.old) (S.state out.new) (codes " " ++ entity_name app.now task.0) result }
 {
-    put(out, b" ")?;
-    put_entity(out, app, task)
+    put_all(
+        out,
+        &[Piece::Bytes(b" "), Piece::Bytes(entity_name(app, task))],
+    )
 }
 
 // A blank, and the name of a resource.
 fn put_resource_after<S: Sink>(out: &mut S, app: &App, resource: u8) -> Result<(), WriteFault>
     ensures { Prints (S.state out.old) (S.state out.new) (codes " " ++ resource_name app.now resource) result }
 {
-    put(out, b" ")?;
-    put_resource(out, app, resource)
+    put_all(
+        out,
+        &[
+            Piece::Bytes(b" "),
+            Piece::Bytes(resource_name(app, resource)),
+        ],
+    )
 }
 
 #[tactic(auto, using(crate::proofs::Printing::prints_nothing))]
@@ -137,7 +130,7 @@ fn put_code<S: Sink>(out: &mut S, code: u8) -> Result<(), WriteFault>
     if code == 0 {
         Ok(())
     } else {
-        put_counted(out, b" ", code as u64)
+        put_all(out, &[Piece::Counted(b" ", code as u64)])
     }
 }
 
@@ -145,7 +138,7 @@ fn put_code<S: Sink>(out: &mut S, code: u8) -> Result<(), WriteFault>
 pub fn put_failure<S: Sink>(out: &mut S, failure: Failure) -> Result<(), WriteFault>
     ensures { Prints (S.state out.old) (S.state out.new) (failure_text failure) result }
 {
-    put_counted(out, b"F", failure.number as u64)?;
+    put_all(out, &[Piece::Counted(b"F", failure.number as u64)])?;
     put_code(out, failure.code)
 }
 

@@ -6,14 +6,14 @@ ghost use Rattle.report.specs.Lines.{entity_name, resource_name};
 ghost use Rattle.report.specs.Printing.{Prints};
 ghost use Rattle.step_ir.specs.Points.{cells_of, own_cells};
 
-use crate::pieces::put;
+use crate::pieces::{Piece, put_all};
 use crate::reports::WriteFault;
-use app_model::app::{App, Entity};
+use application::app::{App, Entity};
 use chk_base::sink::Sink;
 use step_ir::code::{CellName, Code, EntityCode};
 
-// The name of the entity with this number; there is none without it.
-fn entity_name(app: &App, entity: Entity) -> &[u8]
+/// The name of the entity with this number; there is none without it.
+pub fn entity_name(app: &App, entity: Entity) -> &[u8]
     ensures { result.now ≡ entity_name app.now entity.0 }
 {
     let at = entity.0 as usize;
@@ -26,27 +26,14 @@ fn entity_name(app: &App, entity: Entity) -> &[u8]
     }
 }
 
-/// Writes the name of an entity.
-pub fn put_entity<S: Sink>(out: &mut S, app: &App, entity: Entity) -> Result<(), WriteFault>
-    ensures { Prints (S.state out.old) (S.state out.new) (entity_name app.now entity.0) result }
-{
-    put(out, entity_name(app, entity))
-}
-
-fn resource_name(app: &App, resource: u8) -> &[u8]
+/// The name of the resource with this number.
+pub fn resource_name(app: &App, resource: u8) -> &[u8]
     ensures { result.now ≡ resource_name app.now resource }
 {
     match app.resources.get(resource as usize) {
         Some(resource) => resource.name.as_bytes(),
         None => b"RES_SCHEDULER",
     }
-}
-
-/// Writes the name of a resource.
-pub fn put_resource<S: Sink>(out: &mut S, app: &App, resource: u8) -> Result<(), WriteFault>
-    ensures { Prints (S.state out.old) (S.state out.new) (resource_name app.now resource) result }
-{
-    put(out, resource_name(app, resource))
 }
 
 // The cell with this number among those of these entities.
@@ -81,16 +68,15 @@ fn function_name(code: &Code, function: u16) -> &[u8]
     }
 }
 
-fn put_function<S: Sink>(out: &mut S, code: &Code, function: u16) -> Result<(), WriteFault>
-    ensures { Prints (S.state out.old) (S.state out.new) (unwrap_or (slice_get code.now.functions function) []) result }
-{
-    put(out, function_name(code, function))
-}
-
 /// Writes the call of a function.
 pub fn put_call<S: Sink>(out: &mut S, code: &Code, function: u16) -> Result<(), WriteFault>
     ensures { Prints (S.state out.old) (S.state out.new) (call_text code.now function) result }
 {
-    put(out, b"call ")?;
-    put_function(out, code, function)
+    put_all(
+        out,
+        &[
+            Piece::Bytes(b"call "),
+            Piece::Bytes(function_name(code, function)),
+        ],
+    )
 }

@@ -4,7 +4,7 @@ ghost use Rattle.report.specs.Lines.{counted, line, place_text};
 ghost use Rattle.report.specs.Printing.{Prints};
 ghost use Rattle.report.specs.RefusalTexts.{limit_line, place_line, refusal_text, rule_line};
 
-use crate::pieces::{put, put_counted, put_place};
+use crate::pieces::{Piece, put, put_all};
 use crate::reports::{Refusal, WriteFault};
 use chk_base::place::Place;
 use chk_base::sink::Sink;
@@ -13,30 +13,50 @@ use chk_base::sink::Sink;
 fn put_at<S: Sink>(out: &mut S, head: &[u8], place: Place) -> Result<(), WriteFault>
     ensures { Prints (S.state out.old) (S.state out.new) (place_line head.now place) result }
 {
-    put(out, head)?;
-    put(out, b" at ")?;
-    put_place(out, place)?;
-    put(out, b"\n")
+    put_all(
+        out,
+        &[
+            Piece::Bytes(head),
+            Piece::Bytes(b" at "),
+            Piece::Place(place),
+            Piece::Bytes(b"\n"),
+        ],
+    )
 }
 
 // A line with the number of a rule and a place.
 fn put_rule<S: Sink>(out: &mut S, head: &[u8], rule: u8, place: Place) -> Result<(), WriteFault>
     ensures { Prints (S.state out.old) (S.state out.new) (rule_line head.now rule place) result }
 {
-    put_counted(out, head, rule as u64)?;
-    put(out, b" at ")?;
-    put_place(out, place)?;
-    put(out, b"\n")
+    put_all(
+        out,
+        &[
+            Piece::Counted(head, rule as u64),
+            Piece::Bytes(b" at "),
+            Piece::Place(place),
+            Piece::Bytes(b"\n"),
+        ],
+    )
 }
 
 // A line with a number and its limit.
-fn put_limit<S: Sink>(out: &mut S, head: &[u8], number: u64, limit: &[u8]) -> Result<(), WriteFault>
+fn put_limit<'a, S: Sink>(
+    out: &mut S,
+    head: &'a [u8],
+    number: u64,
+    limit: &'a [u8],
+) -> Result<(), WriteFault>
     ensures { Prints (S.state out.old) (S.state out.new) (limit_line head.now number limit.now) result }
 {
-    put_counted(out, head, number)?;
-    put(out, b" of ")?;
-    put(out, limit)?;
-    put(out, b"\n")
+    put_all(
+        out,
+        &[
+            Piece::Counted(head, number),
+            Piece::Bytes(b" of "),
+            Piece::Bytes(limit),
+            Piece::Bytes(b"\n"),
+        ],
+    )
 }
 
 /// Writes the line of a refusal.

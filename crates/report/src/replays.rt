@@ -5,23 +5,15 @@ ghost use Rattle.report.specs.Lines.{counted, entity_name, failure_at, line};
 ghost use Rattle.report.specs.Printing.{Prints};
 ghost use Rattle.report.specs.ReplayTexts.{end_text, replay_text, replayed_text, running_text, state_text, stopped_text};
 
-use crate::events::{put_events, put_failure_at};
-use crate::names::put_entity;
-use crate::pieces::{put, put_count, put_counted};
+use crate::events::{put_events, put_failure_line};
+use crate::names::entity_name;
+use crate::pieces::{Piece, put, put_all, put_count};
 use crate::reports::{ReplayFault, Replayed, WriteFault};
-use app_model::app::{App, Entity};
+use application::app::{App, Entity};
 use chk_base::sink::Sink;
 use osek_machine::machine::StateView;
 use step_ir::code::Code;
 use step_ir::event::{Events, Failure};
-
-fn put_fails<S: Sink>(out: &mut S, events: &Events, failure: Failure) -> Result<(), WriteFault>
-    ensures { Prints (S.state out.old) (S.state out.new) (end_text events.now (Some failure)) result }
-{
-    put(out, b"fails ")?;
-    put_failure_at(out, failure, events)?;
-    put(out, b"\n")
-}
 
 fn put_end<S: Sink>(
     out: &mut S,
@@ -31,7 +23,7 @@ fn put_end<S: Sink>(
     ensures { Prints (S.state out.old) (S.state out.new) (end_text events.now failure) result }
 {
     match failure {
-        Some(failure) => put_fails(out, events, failure),
+        Some(failure) => put_failure_line(out, b"fails ", failure, events),
         None => put(out, b"done\n"),
     }
 }
@@ -51,10 +43,15 @@ fn put_whole<S: Sink>(
 fn put_actor<S: Sink>(out: &mut S, app: &App, entity: Entity, level: u8) -> Result<(), WriteFault>
     ensures { Prints (S.state out.old) (S.state out.new) (running_text app.now (Some entity) level) result }
 {
-    put(out, b"running ")?;
-    put_entity(out, app, entity)?;
-    put_counted(out, b" level ", level as u64)?;
-    put(out, b"\n")
+    put_all(
+        out,
+        &[
+            Piece::Bytes(b"running "),
+            Piece::Bytes(entity_name(app, entity)),
+            Piece::Counted(b" level ", level as u64),
+            Piece::Bytes(b"\n"),
+        ],
+    )
 }
 
 fn put_running<S: Sink>(

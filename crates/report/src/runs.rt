@@ -9,29 +9,27 @@ ghost use Rattle.report.specs.Printing.{Prints};
 ghost use Rattle.report.specs.RunTexts.{bounds_text, choice_line, failed_text, failing_text, head_text, is_signed_input, points_text, run_text, schedule_text, takes_signed, verdict_text};
 ghost use Rattle.step_ir.specs.Fits.{Fits, point_count};
 
-use crate::events::{put_events, put_failure_at};
-use crate::names::{cell_name, put_entity};
-use crate::pieces::{put, put_class, put_count, put_counted, put_reading};
+use crate::events::{put_events, put_failure_line};
+use crate::names::{cell_name, entity_name};
+use crate::pieces::{Piece, class_line, put, put_all, put_count};
 use crate::reports::{Replayed, Verdict, WriteFault};
-use app_model::app::{App, Entity};
+use application::app::{App, Entity};
 use chk_base::sink::Sink;
 use chk_base::word::Word;
 use step_ir::code::{Code, EntityCode};
 use step_ir::event::{Choice, Choices, Event, EventAction, Events, Failure};
 
-// The number that an application was made from.
-fn put_made<S: Sink>(out: &mut S, number: u32) -> Result<(), WriteFault>
-    ensures { Prints (S.state out.old) (S.state out.new) (head_text (Some number)) result }
-{
-    put(out, b"oschk make\n")?;
-    put_count(out, b"number ", number as u64)
-}
-
 fn put_head<S: Sink>(out: &mut S, made: Option<u32>) -> Result<(), WriteFault>
     ensures { Prints (S.state out.old) (S.state out.new) (head_text made) result }
 {
     match made {
-        Some(number) => put_made(out, number),
+        Some(number) => put_all(
+            out,
+            &[
+                Piece::Bytes(b"oschk make\n"),
+                Piece::Line(b"number ", number as u64),
+            ],
+        ),
         None => put(out, b"oschk run\n"),
     }
 }
@@ -39,9 +37,14 @@ fn put_head<S: Sink>(out: &mut S, made: Option<u32>) -> Result<(), WriteFault>
 fn put_bounds<S: Sink>(out: &mut S, turns: u16, arrivals: u8) -> Result<(), WriteFault>
     ensures { Prints (S.state out.old) (S.state out.new) (bounds_text turns arrivals) result }
 {
-    put_counted(out, b"bounds ", turns as u64)?;
-    put_counted(out, b" ", arrivals as u64)?;
-    put(out, b"\n")
+    put_all(
+        out,
+        &[
+            Piece::Counted(b"bounds ", turns as u64),
+            Piece::Counted(b" ", arrivals as u64),
+            Piece::Bytes(b"\n"),
+        ],
+    )
 }
 
 // How many points the entities have.
@@ -88,17 +91,27 @@ fn is_signed_input(code: &Code, event: Option<&Event>) -> bool
 fn put_value<S: Sink>(out: &mut S, value: Word, signed: bool) -> Result<(), WriteFault>
     ensures { Prints (S.state out.old) (S.state out.new) (line (codes "go " ++ signed_decimal (reading_of signed value))) result }
 {
-    put(out, b"go ")?;
-    put_reading(out, value, signed)?;
-    put(out, b"\n")
+    put_all(
+        out,
+        &[
+            Piece::Bytes(b"go "),
+            Piece::Reading(value, signed),
+            Piece::Bytes(b"\n"),
+        ],
+    )
 }
 
 fn put_arrival<S: Sink>(out: &mut S, app: &App, routine: Entity) -> Result<(), WriteFault>
     ensures { Prints (S.state out.old) (S.state out.new) (line (codes "arrive " ++ entity_name app.now routine.0)) result }
 {
-    put(out, b"arrive ")?;
-    put_entity(out, app, routine)?;
-    put(out, b"\n")
+    put_all(
+        out,
+        &[
+            Piece::Bytes(b"arrive "),
+            Piece::Bytes(entity_name(app, routine)),
+            Piece::Bytes(b"\n"),
+        ],
+    )
 }
 
 // The line of a choice, whose event is this one.
@@ -148,18 +161,6 @@ fn put_schedule<S: Sink>(
     Ok(())
 }
 
-fn put_failure_line<S: Sink>(
-    out: &mut S,
-    events: &Events,
-    failure: Failure,
-) -> Result<(), WriteFault>
-    ensures { Prints (S.state out.old) (S.state out.new) (failed_text events.now (Some failure)) result }
-{
-    put(out, b"verdict fails ")?;
-    put_failure_at(out, failure, events)?;
-    put(out, b"\n")
-}
-
 #[tactic(auto, using(crate::proofs::Printing::prints_nothing))]
 fn put_failed<S: Sink>(
     out: &mut S,
@@ -169,7 +170,7 @@ fn put_failed<S: Sink>(
     ensures { Prints (S.state out.old) (S.state out.new) (failed_text events.now failure) result }
 {
     match failure {
-        Some(failure) => put_failure_line(out, events, failure),
+        Some(failure) => put_failure_line(out, b"verdict fails ", failure, events),
         None => Ok(()),
     }
 }
@@ -239,7 +240,7 @@ pub fn put_run<S: Sink>(
         (run_text made app.now code.now bounds.0 bounds.1 verdict (option_copied replayed.entry) (option_copied choices.entry)) result }
 {
     put_head(out, made)?;
-    put_class(out, app.class)?;
+    put(out, class_line(app.class))?;
     put_bounds(out, bounds.0, bounds.1)?;
     put_points(out, code)?;
     put_verdict(out, app, code, verdict, replayed, choices)

@@ -1,18 +1,18 @@
 // The report of levels, ceilings, counts and notes.
 ghost use Rattle.std.specs.Prelude.{◌≡◌, ◌≤◌, ◌+◌, ◌++◌, true, codes, decimal, length};
-ghost use Rattle.app_model.specs.InOrder.{IsInOrder};
-ghost use Rattle.app_model.specs.Levels.{highest_task_level};
+ghost use Rattle.application.specs.InOrder.{IsInOrder};
+ghost use Rattle.application.specs.Levels.{highest_task_level};
 ghost use Rattle.report.specs.Lines.{class_text, counted, each, line, place_text};
 ghost use Rattle.report.specs.Printing.{Prints};
 ghost use Rattle.report.specs.RunTexts.{points_text};
-ghost use Rattle.report.specs.ShowTexts.{counts_text, entities_text, mode_line, note_text, points_at, resource_text, resource_word, resources_text, routine_line, scheduler_text, show_text, task_line, task_text, top_text};
+ghost use Rattle.report.specs.ShowTexts.{counts_text, entities_text, mode_line, note_text, points_at, resource_text, resource_word, resources_text, routine_line, scheduler_text, show_text, task_line, top_text};
 ghost use Rattle.step_ir.specs.Fits.{Fits, point_count};
 
-use crate::pieces::{put, put_class, put_count, put_counted, put_place, put_text};
+use crate::pieces::{Piece, class_line, put_all, put_count};
 use crate::reports::WriteFault;
 use crate::runs::put_points;
-use app_model::app::{App, Note, Notes, Resource, Routine, Task};
-use app_model::levels::scheduler_ceiling;
+use application::app::{App, Note, Notes, Resource, Routine, Task};
+use application::levels::scheduler_ceiling;
 use chk_base::sink::Sink;
 use step_ir::code::Code;
 
@@ -26,33 +26,22 @@ fn points_at(code: &Code, entity: usize) -> usize
     }
 }
 
-fn put_points_at<S: Sink>(out: &mut S, code: &Code, entity: usize) -> Result<(), WriteFault>
-    ensures { Prints (S.state out.old) (S.state out.new) (counted (codes " points ") (points_at code.now entity)) result }
-{
-    put_counted(out, b" points ", points_at(code, entity) as u64)
-}
-
+// The line of a task.
 fn put_task<S: Sink>(out: &mut S, code: &Code, number: usize, task: &Task) -> Result<(), WriteFault>
-    ensures { Prints (S.state out.old) (S.state out.new) (task_text code.now number task.now) result }
-{
-    put(out, b"task ")?;
-    put_text(out, &task.name)?;
-    put_counted(out, b" level ", task.level as u64)?;
-    put_counted(out, b" run ", task.run_level as u64)?;
-    put_counted(out, b" requests ", task.requests as u64)?;
-    put_points_at(out, code, number)
-}
-
-fn put_task_line<S: Sink>(
-    out: &mut S,
-    code: &Code,
-    number: usize,
-    task: &Task,
-) -> Result<(), WriteFault>
     ensures { Prints (S.state out.old) (S.state out.new) (task_line code.now number task.now) result }
 {
-    put_task(out, code, number, task)?;
-    put(out, b"\n")
+    put_all(
+        out,
+        &[
+            Piece::Bytes(b"task "),
+            Piece::Text(&task.name),
+            Piece::Counted(b" level ", task.level as u64),
+            Piece::Counted(b" run ", task.run_level as u64),
+            Piece::Counted(b" requests ", task.requests as u64),
+            Piece::Counted(b" points ", points_at(code, number) as u64),
+            Piece::Bytes(b"\n"),
+        ],
+    )
 }
 
 fn put_routine<S: Sink>(
@@ -63,11 +52,16 @@ fn put_routine<S: Sink>(
 ) -> Result<(), WriteFault>
     ensures { Prints (S.state out.old) (S.state out.new) (routine_line code.now number routine.now) result }
 {
-    put(out, b"isr ")?;
-    put_text(out, &routine.name)?;
-    put_counted(out, b" level ", routine.level as u64)?;
-    put_points_at(out, code, number)?;
-    put(out, b"\n")
+    put_all(
+        out,
+        &[
+            Piece::Bytes(b"isr "),
+            Piece::Text(&routine.name),
+            Piece::Counted(b" level ", routine.level as u64),
+            Piece::Counted(b" points ", points_at(code, number) as u64),
+            Piece::Bytes(b"\n"),
+        ],
+    )
 }
 
 fn resource_word(internal: bool) -> &'static [u8]
@@ -76,19 +70,18 @@ fn resource_word(internal: bool) -> &'static [u8]
     if internal { b"internal " } else { b"resource " }
 }
 
-fn put_resource_word<S: Sink>(out: &mut S, internal: bool) -> Result<(), WriteFault>
-    ensures { Prints (S.state out.old) (S.state out.new) (resource_word internal) result }
-{
-    put(out, resource_word(internal))
-}
-
 fn put_resource<S: Sink>(out: &mut S, resource: &Resource) -> Result<(), WriteFault>
     ensures { Prints (S.state out.old) (S.state out.new) (resource_text resource.now) result }
 {
-    put_resource_word(out, resource.internal)?;
-    put_text(out, &resource.name)?;
-    put_counted(out, b" ceiling ", resource.ceiling as u64)?;
-    put(out, b"\n")
+    put_all(
+        out,
+        &[
+            Piece::Bytes(resource_word(resource.internal)),
+            Piece::Text(&resource.name),
+            Piece::Counted(b" ceiling ", resource.ceiling as u64),
+            Piece::Bytes(b"\n"),
+        ],
+    )
 }
 
 fn put_ceiling<S: Sink>(out: &mut S, app: &App) -> Result<(), WriteFault>
@@ -116,10 +109,15 @@ fn put_scheduler<S: Sink>(out: &mut S, app: &App) -> Result<(), WriteFault>
 fn put_note<S: Sink>(out: &mut S, note: &Note) -> Result<(), WriteFault>
     ensures { Prints (S.state out.old) (S.state out.new) (note_text note.now) result }
 {
-    put_counted(out, b"note N", note.number as u64)?;
-    put(out, b" at ")?;
-    put_place(out, note.place)?;
-    put(out, b"\n")
+    put_all(
+        out,
+        &[
+            Piece::Counted(b"note N", note.number as u64),
+            Piece::Bytes(b" at "),
+            Piece::Place(note.place),
+            Piece::Bytes(b"\n"),
+        ],
+    )
 }
 
 fn put_tasks<S: Sink>(out: &mut S, app: &App, code: &Code) -> Result<(), WriteFault>
@@ -127,7 +125,7 @@ fn put_tasks<S: Sink>(out: &mut S, app: &App, code: &Code) -> Result<(), WriteFa
 {
     let tasks = app.tasks.items();
     for i in 0..tasks.len() {
-        put_task_line(out, code, i, &tasks[i])?;
+        put_task(out, code, i, &tasks[i])?;
     }
     Ok(())
 }
@@ -191,17 +189,27 @@ fn put_notes<S: Sink>(out: &mut S, notes: &Notes) -> Result<(), WriteFault>
 fn put_mode<S: Sink>(out: &mut S, app: &App) -> Result<(), WriteFault>
     ensures { Prints (S.state out.old) (S.state out.new) (mode_line app.now) result }
 {
-    put(out, b"mode ")?;
-    put_text(out, &app.mode)?;
-    put(out, b"\n")
+    put_all(
+        out,
+        &[
+            Piece::Bytes(b"mode "),
+            Piece::Text(&app.mode),
+            Piece::Bytes(b"\n"),
+        ],
+    )
 }
 
 // The first three lines.
 fn put_top<S: Sink>(out: &mut S, app: &App) -> Result<(), WriteFault>
     ensures { Prints (S.state out.old) (S.state out.new) (top_text app.now) result }
 {
-    put(out, b"oschk show\n")?;
-    put_class(out, app.class)?;
+    put_all(
+        out,
+        &[
+            Piece::Bytes(b"oschk show\n"),
+            Piece::Bytes(class_line(app.class)),
+        ],
+    )?;
     put_mode(out, app)
 }
 

@@ -2,13 +2,13 @@
 use Rattle.std.proofs.Common.{◌≡◌, ℕ, ◌<◌, ◌≤◌, Bool, false, is_some, List, [], ◌∷◌, ◌++◌, length, Option, Some, None, refl, sym, subst, arith}
 use Rattle.chk_base.specs.declared.place.Place.{Place}
 use Rattle.chk_base.specs.declared.text.Name.{Name}
-use Rattle.c_expression.specs.declared.expression.Expression.{Expression}
-use Rattle.c_expression.specs.declared.expression.RightSide.{RightSide}
-use Rattle.c_expression.specs.declared.expression.TypeName.{TypeName}
-use Rattle.c_parse.specs.declared.statement.Declarator.{Declarator}
-use Rattle.c_parse.specs.declared.statement.Simple.{Simple}
-use Rattle.c_parse.specs.declared.statement.Start.{Start}
-use Rattle.c_parse.specs.declared.statement.Start.TheVariants as starts
+use Rattle.c_unit.specs.declared.expression.Expression.{Expression}
+use Rattle.c_unit.specs.declared.expression.RightSide.{RightSide}
+use Rattle.c_unit.specs.declared.expression.TypeName.{TypeName}
+use Rattle.c_unit.specs.declared.statement.Declarator.{Declarator}
+use Rattle.c_unit.specs.declared.statement.Simple.{Simple}
+use Rattle.c_unit.specs.declared.statement.Start.{Start}
+use Rattle.c_unit.specs.declared.statement.Start.TheVariants as starts
 use Rattle.c_rules.specs.declared.meaning.LocalMeaning.{LocalMeaning}
 use Rattle.c_rules.specs.First.{when}
 use Rattle.c_rules.specs.Files.{Known, known_meaning}
@@ -17,12 +17,12 @@ use Rattle.c_rules.specs.Scopes.{Visible, Scope, is_declared, declared, entered,
 use Rattle.c_rules.specs.StatementRules.{means_in, initial_faults, declarators_faults, after_declarators, start_faults, after_start, step_faults, returns_wrongly, statement_faults, block_faults, branches_faults, after, after_block, after_branches}
 use Rattle.c_rules.specs.Written.{WrittenStatement, WrittenBlock, WrittenBranches, NoBranch, BranchThen}
 use Rattle.c_rules.specs.Written as w
-use Rattle.c_types.specs.declared.typed.CType.{CType}
-use Rattle.c_types.specs.Plain.{PlainStatement, PlainBlock, NoStatement, StatementThen, PlainUnit, block}
-use Rattle.c_types.specs.Plain as p
-use Rattle.c_types.specs.Views.{PlainBranch, chained, branched}
-use Rattle.c_types.specs.TypedExpressions.{typed_expression}
-use Rattle.c_types.specs.TypedStatements.{target_of, assign_of, simple_of, initial_of, declarators_of, start_of, step_of, optional_of, value_of, typed_statement, typed_statements, typed_branches}
+use Rattle.typed_unit.specs.declared.typed.CType.{CType}
+use Rattle.typed_unit.specs.Plain.{PlainStatement, PlainBlock, NoStatement, StatementThen, PlainUnit, block}
+use Rattle.typed_unit.specs.Plain as p
+use Rattle.typed_unit.specs.Views.{PlainBranch, chained, branched}
+use Rattle.typed_unit.specs.TypedExpressions.{typed_expression}
+use Rattle.typed_unit.specs.TypedStatements.{target_of, assign_of, simple_of, initial_of, declarators_of, start_of, step_of, optional_of, value_of, typed_statement, typed_statements, typed_branches}
 use Rattle.lower_law.specs.Scoped.{IsScoped, IfScoped, IsResult, StatementScoped, BlockScoped, known_behind, known_in}
 use Rattle.scope_law.specs.Right.{IsCallIn}
 use Rattle.scope_law.proofs.Meant.{front_none, back_none, IsAbroad, IsMeant}

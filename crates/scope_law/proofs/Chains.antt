@@ -5,20 +5,20 @@ use Rattle.std.specs.Prelude.{option_map}
 use Rattle.std.proofs.lemmas.Bool.{cases_lt, and_parts, eq-eqb, false≢true, or_left, or_right}
 use Rattle.std.proofs.lemmas.List.Folds.{list_any-append}
 use Rattle.std.proofs.lemmas.Option.{get_or_from_slice_get, slice_get-map, slice_get_within}
-use Rattle.app_model.specs.declared.app.App.{App}
-use Rattle.app_model.specs.declared.app.Entity.{Entity}
+use Rattle.application.specs.declared.app.App.{App}
+use Rattle.application.specs.declared.app.Entity.{Entity}
 use Rattle.c_rules.specs.First.{when}
-use Rattle.c_types.specs.declared.typed.CType.{CType}
-use Rattle.c_types.specs.declared.typed.GlobalVar.{GlobalVar}
-use Rattle.c_types.specs.declared.typed.Taker.{Taker}
-use Rattle.c_types.specs.Plain.{PlainExpr, PlainStatement, PlainBlock, NoStatement, StatementThen, PlainFunction, PlainEntity, PlainUnit}
-use Rattle.c_types.specs.Plain as p
+use Rattle.typed_unit.specs.declared.typed.CType.{CType}
+use Rattle.typed_unit.specs.declared.typed.GlobalVar.{GlobalVar}
+use Rattle.typed_unit.specs.declared.typed.Taker.{Taker}
+use Rattle.typed_unit.specs.Plain.{PlainExpr, PlainStatement, PlainBlock, NoStatement, StatementThen, PlainFunction, PlainEntity, PlainUnit}
+use Rattle.typed_unit.specs.Plain as p
 use Rattle.static_rules.specs.declared.site.Site.{Site}
 use Rattle.static_rules.specs.declared.site.Site.TheVariants as sites
 use Rattle.static_rules.specs.Chains.{is_call_of, calls, body, called_after}
 use Rattle.static_rules.specs.Rules.{is_body_of, has_body, lacks_body, lacks_task, lacks_routine, first_sites, late_faults, chain_faults, recursion_faults, unless_any, calling_faults, resource_faults, body_faults, size_faults, nameless_faults, repeat_faults, faults}
 use Rattle.static_rules.specs.Sites.{sites_in, sites_of, function_bodies}
-use Rattle.c_parse.specs.declared.unit.EntityKind.TheVariants as kinds
+use Rattle.c_unit.specs.declared.unit.EntityKind.TheVariants as kinds
 use Rattle.static_rules.proofs.Bounds.{any_at, any_some}
 use Rattle.static_rules.proofs.Reaching.{after_more, called_next}
 use Rattle.lower_law.specs.Scoped.{StatementScoped, BlockScoped, known_behind, known_in, IsCallee, IsFunction, IsCallTo}

@@ -1,22 +1,22 @@
 -- Expressions that break no rule, where what names mean is right.
 use Rattle.std.proofs.Common.{◌≡◌, ℕ, Bool, true, false, not, is_some, if◌then◌else◌, List, [], ◌++◌, Option, Some, None, true≢false, slice_get, sym, ap, ◌∙◌, subst}
 use Rattle.chk_base.specs.declared.place.Place.{Place}
-use Rattle.c_expression.specs.declared.expression.BinaryOperator.{BinaryOperator}
-use Rattle.c_expression.specs.declared.expression.Expression.{Expression, ind-Expression, map-Expression, roll-Expression, fold-roll-Expression}
-use Rattle.c_expression.specs.declared.expression.Expression.TheOpen.{Expression-F}
+use Rattle.c_unit.specs.declared.expression.BinaryOperator.{BinaryOperator}
+use Rattle.c_unit.specs.declared.expression.Expression.{Expression, ind-Expression, map-Expression, roll-Expression, fold-roll-Expression}
+use Rattle.c_unit.specs.declared.expression.Expression.TheOpen.{Expression-F}
 use Rattle.c_rules.specs.declared.first.Fault.{Fault}
 use Rattle.c_rules.specs.declared.meaning.Meaning.{Meaning}
 use Rattle.c_rules.specs.declared.meaning.Meaning.TheVariants as m
 use Rattle.c_rules.specs.First.{when}
 use Rattle.c_rules.specs.Rules.{Means, use_faults, expression_layer, expression_faults, optional_faults}
-use Rattle.c_types.specs.declared.typed.CType.{CType}
-use Rattle.c_types.specs.declared.typed.GlobalVar.{GlobalVar}
-use Rattle.c_types.specs.declared.convert.Manner.{Manner}
-use Rattle.c_types.specs.declared.convert.Manner.TheVariants as j
-use Rattle.c_types.specs.Plain.{PlainExpr, Conversion, PlainUnit, type_of}
-use Rattle.c_types.specs.Conversions.{same_ctype, place_of, converted, promotion, promoted, common, joined, joining, joined_as, binary_of, conditional_of}
-use Rattle.c_types.specs.TypedStatements.{optional_of}
-use Rattle.c_types.specs.TypedExpressions.{variable_of, array_length, element_of, typed_layer, typed_expression}
+use Rattle.typed_unit.specs.declared.typed.CType.{CType}
+use Rattle.typed_unit.specs.declared.typed.GlobalVar.{GlobalVar}
+use Rattle.typed_unit.specs.declared.manner.Manner.{Manner}
+use Rattle.typed_unit.specs.declared.manner.Manner.TheVariants as j
+use Rattle.typed_unit.specs.Plain.{PlainExpr, Conversion, PlainUnit, type_of}
+use Rattle.typed_unit.specs.Conversions.{same_ctype, place_of, converted, promotion, promoted, common, joined, joining, joined_as, binary_of, conditional_of}
+use Rattle.typed_unit.specs.TypedStatements.{optional_of}
+use Rattle.typed_unit.specs.TypedExpressions.{variable_of, array_length, element_of, typed_layer, typed_expression}
 use Rattle.lower_law.specs.Named.{IsLength}
 use Rattle.lower_law.specs.Scoped.{IsScalar, IsScoped, IfScoped}
 use Rattle.scope_law.proofs.Meant.{front_none, back_none, unbroken, IsThere, IsFound, IsMeant}

@@ -6,13 +6,13 @@ use Rattle.std.proofs.lemmas.Bool.{lt-ltb, not-false}
 use Rattle.std.proofs.lemmas.List.{length-map}
 use Rattle.chk_base.specs.declared.place.Place.{Place}
 use Rattle.chk_base.specs.declared.text.Name.{Name}
-use Rattle.app_model.specs.declared.app.App.{App}
-use Rattle.c_expression.specs.declared.expression.TypeName.{TypeName}
-use Rattle.c_parse.specs.declared.unit.EntityKind.{EntityKind}
-use Rattle.c_parse.specs.declared.unit.External.{External}
-use Rattle.c_parse.specs.declared.unit.External.TheVariants as e
-use Rattle.c_parse.specs.declared.unit.Function.{Function}
-use Rattle.c_parse.specs.declared.unit.Unit.{Unit as WrittenUnit}
+use Rattle.application.specs.declared.app.App.{App}
+use Rattle.c_unit.specs.declared.expression.TypeName.{TypeName}
+use Rattle.c_unit.specs.declared.unit.EntityKind.{EntityKind}
+use Rattle.c_unit.specs.declared.unit.External.{External}
+use Rattle.c_unit.specs.declared.unit.External.TheVariants as e
+use Rattle.c_unit.specs.declared.unit.Function.{Function}
+use Rattle.c_unit.specs.declared.unit.Unit.{Unit as WrittenUnit}
 use Rattle.c_rules.specs.First.{when}
 use Rattle.c_rules.specs.Files.{Known, nothing_of, known_of, known_meaning}
 use Rattle.c_rules.specs.Scopes.{Scope, fresh}
@@ -20,12 +20,12 @@ use Rattle.c_rules.specs.StatementRules.{means_in, block_faults, after, after_bl
 use Rattle.c_rules.specs.UnitRules.{ninth_faults, parameters_faults, after_parameters, is_return, ends_in_return, is_main_name, lacks_return, function_faults, external_faults, names_faults, faults}
 use Rattle.c_rules.specs.Written.{WrittenStatement, WrittenBlock, NoStatement, StatementThen, written_block}
 use Rattle.c_rules.specs.Written as w
-use Rattle.c_types.specs.declared.typed.CType.{CType}
-use Rattle.c_types.specs.Plain.{PlainExpr, PlainStatement, PlainFunction, PlainEntity, PlainUnit, block}
-use Rattle.c_types.specs.Plain as p
-use Rattle.c_types.specs.Conversions.{ctype_named}
-use Rattle.c_types.specs.Typed.{local_of, locals_of, function_of, entity_of, entity_in, global_declared, typed, Fits}
-use Rattle.c_types.specs.TypedStatements.{typed_statement, typed_statements, value_of}
+use Rattle.typed_unit.specs.declared.typed.CType.{CType}
+use Rattle.typed_unit.specs.Plain.{PlainExpr, PlainStatement, PlainFunction, PlainEntity, PlainUnit, block}
+use Rattle.typed_unit.specs.Plain as p
+use Rattle.typed_unit.specs.Conversions.{ctype_named}
+use Rattle.typed_unit.specs.Typed.{local_of, locals_of, function_of, entity_of, entity_in, global_declared, typed, Fits}
+use Rattle.typed_unit.specs.TypedStatements.{typed_statement, typed_statements, value_of}
 use Rattle.lower_law.specs.Scoped.{IsClosed, returns_last}
 use Rattle.scope_law.specs.Right.{IsRightFunction, IsRightEntity, AreRight}
 use Rattle.scope_law.proofs.Meant.{front_none, back_none, unbroken, IsAbroad}

@@ -5,14 +5,14 @@ use Rattle.std.specs.Option.{option_map}
 use Rattle.std.specs.Str.{bytes_eq}
 use Rattle.std.proofs.lemmas.List.{map-append}
 use Rattle.std.proofs.lemmas.Option.{slice_get-map}
-use Rattle.c_parse.specs.declared.unit.Declaration.{Declaration}
-use Rattle.c_parse.specs.declared.unit.External.{External}
-use Rattle.c_parse.specs.declared.unit.External.TheVariants as e
-use Rattle.c_parse.specs.declared.unit.Function.{Function}
-use Rattle.c_parse.specs.declared.unit.Parameter.{Parameter}
-use Rattle.c_parse.specs.declared.unit.Signature.{Signature}
-use Rattle.c_parse.specs.declared.unit.Variable.{Variable}
-use Rattle.c_parse.specs.declared.unit.Variable.TheVariants as v
+use Rattle.c_unit.specs.declared.unit.Declaration.{Declaration}
+use Rattle.c_unit.specs.declared.unit.External.{External}
+use Rattle.c_unit.specs.declared.unit.External.TheVariants as e
+use Rattle.c_unit.specs.declared.unit.Function.{Function}
+use Rattle.c_unit.specs.declared.unit.Parameter.{Parameter}
+use Rattle.c_unit.specs.declared.unit.Signature.{Signature}
+use Rattle.c_unit.specs.declared.unit.Variable.{Variable}
+use Rattle.c_unit.specs.declared.unit.Variable.TheVariants as v
 use Rattle.c_rules.specs.declared.meaning.FunctionMeaning.{FunctionMeaning}
 use Rattle.c_rules.specs.declared.meaning.Meaning.{Meaning}
 use Rattle.c_rules.specs.declared.meaning.Meaning.TheVariants as m
@@ -21,11 +21,11 @@ use Rattle.c_rules.specs.declared.meaning.VariableMeaning.{VariableMeaning}
 use Rattle.c_rules.specs.Files.{Files, Known, file_named, written_length, variable_name, variable_meaning, function_meaning, with_variable, with_function, with_external, known_meaning}
 use Rattle.c_rules.specs.Meanings.{or_else, or_nothing, service_named, is_left_out, is_input_name, task_named, routine_named, resource_named, object_named, system_named, left_out_named}
 use Rattle.c_rules.specs.UnitRules.{ninth_faults}
-use Rattle.c_types.specs.declared.typed.CType.{CType}
-use Rattle.c_types.specs.Conversions.{ctype_named}
-use Rattle.c_types.specs.Plain.{PlainUnit}
-use Rattle.c_types.specs.Typed.{global_of, global_declared, globals_in, function_of, functions_in}
-use Rattle.c_types.specs.TypedExpressions.{length_of}
+use Rattle.typed_unit.specs.declared.typed.CType.{CType}
+use Rattle.typed_unit.specs.Conversions.{ctype_named}
+use Rattle.typed_unit.specs.Plain.{PlainUnit}
+use Rattle.typed_unit.specs.Typed.{global_of, global_declared, globals_in, function_of, functions_in}
+use Rattle.typed_unit.specs.TypedExpressions.{length_of}
 use Rattle.scope_law.proofs.Meant.{IsThere, IsSigned, IsFound, IsAbroad}
 
 -- what holds of all of a list

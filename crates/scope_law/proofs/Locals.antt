@@ -5,11 +5,11 @@ use Rattle.std.specs.Option.{option_map}
 use Rattle.std.proofs.lemmas.Bool.{or_left, or_right, eq-eqb}
 use Rattle.std.proofs.Math.Seq.{take-append_seam}
 use Rattle.chk_base.specs.declared.text.Name.{Name}
-use Rattle.c_expression.specs.declared.expression.TypeName.{TypeName}
-use Rattle.c_parse.specs.declared.statement.Declarator.{Declarator}
-use Rattle.c_parse.specs.declared.statement.Start.{Start}
-use Rattle.c_parse.specs.declared.statement.Start.TheVariants as starts
-use Rattle.c_parse.specs.declared.unit.Parameter.{Parameter}
+use Rattle.c_unit.specs.declared.expression.TypeName.{TypeName}
+use Rattle.c_unit.specs.declared.statement.Declarator.{Declarator}
+use Rattle.c_unit.specs.declared.statement.Start.{Start}
+use Rattle.c_unit.specs.declared.statement.Start.TheVariants as starts
+use Rattle.c_unit.specs.declared.unit.Parameter.{Parameter}
 use Rattle.c_rules.specs.declared.meaning.LocalMeaning.{LocalMeaning}
 use Rattle.c_rules.specs.declared.meaning.Meaning.TheVariants as m
 use Rattle.c_rules.specs.Meanings.{or_else, or_nothing}
@@ -18,9 +18,9 @@ use Rattle.c_rules.specs.Scopes.{Visible, Scope, is_named, nearer, local_named, 
 use Rattle.c_rules.specs.StatementRules.{means_in, after_declarators, after_start, after, after_block, after_branches}
 use Rattle.c_rules.specs.UnitRules.{after_parameters}
 use Rattle.c_rules.specs.Written.{WrittenStatement, Empty, Block, Declare, Do, If, While, For, Return, WrittenBlock, NoStatement, StatementThen, WrittenBranches, NoBranch, BranchThen}
-use Rattle.c_types.specs.declared.typed.Taker.{Taker}
-use Rattle.c_types.specs.Plain.{PlainStatement, PlainBlock, PlainUnit}
-use Rattle.c_types.specs.Plain as p
+use Rattle.typed_unit.specs.declared.typed.Taker.{Taker}
+use Rattle.typed_unit.specs.Plain.{PlainStatement, PlainBlock, PlainUnit}
+use Rattle.typed_unit.specs.Plain as p
 use Rattle.lower_law.specs.FitsBody.{learn}
 use Rattle.lower_law.specs.Scoped.{learn_taken, known_behind}
 use Rattle.scope_law.proofs.Meant.{IsAbroad, IsMeant, meant_abroad}

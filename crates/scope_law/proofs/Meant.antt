@@ -6,10 +6,10 @@ use Rattle.c_rules.specs.declared.meaning.FunctionMeaning.{FunctionMeaning}
 use Rattle.c_rules.specs.declared.meaning.Meaning.{Meaning}
 use Rattle.c_rules.specs.declared.meaning.Meaning.TheVariants as m
 use Rattle.c_rules.specs.First.{when}
-use Rattle.c_types.specs.declared.typed.GlobalVar.{GlobalVar}
-use Rattle.c_types.specs.Plain.{PlainFunction, PlainUnit}
-use Rattle.c_types.specs.Conversions.{ctype_named}
-use Rattle.c_types.specs.TypedExpressions.{length_of}
+use Rattle.typed_unit.specs.declared.typed.GlobalVar.{GlobalVar}
+use Rattle.typed_unit.specs.Plain.{PlainFunction, PlainUnit}
+use Rattle.typed_unit.specs.Conversions.{ctype_named}
+use Rattle.typed_unit.specs.TypedExpressions.{length_of}
 
 -- two lists are nothing where they are nothing together
 pub front_none : {A : Type 0} (xs ys : List A) → xs ++ ys ≡ [] → xs ≡ []

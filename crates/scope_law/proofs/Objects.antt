@@ -4,12 +4,12 @@ use Rattle.std.specs.Option.{option_map}
 use Rattle.std.specs.Str.{bytes_eq}
 use Rattle.std.proofs.lemmas.List.Quantifiers.{position-Some}
 use Rattle.std.proofs.lemmas.Option.{none-some}
-use Rattle.app_model.specs.declared.app.App.{App}
-use Rattle.c_parse.specs.declared.unit.Declaration.{Declaration}
-use Rattle.c_parse.specs.declared.unit.External.{External}
-use Rattle.c_parse.specs.declared.unit.External.TheVariants as e
-use Rattle.c_parse.specs.declared.unit.Signature.{Signature}
-use Rattle.c_parse.specs.declared.unit.Unit.{Unit as WrittenUnit}
+use Rattle.application.specs.declared.app.App.{App}
+use Rattle.c_unit.specs.declared.unit.Declaration.{Declaration}
+use Rattle.c_unit.specs.declared.unit.External.{External}
+use Rattle.c_unit.specs.declared.unit.External.TheVariants as e
+use Rattle.c_unit.specs.declared.unit.Signature.{Signature}
+use Rattle.c_unit.specs.declared.unit.Unit.{Unit as WrittenUnit}
 use Rattle.c_rules.specs.declared.meaning.LocalMeaning.{LocalMeaning}
 use Rattle.c_rules.specs.declared.meaning.Meaning.{Meaning}
 use Rattle.c_rules.specs.declared.meaning.Meaning.TheVariants as m

@@ -6,23 +6,23 @@ use Rattle.std.proofs.lemmas.Bool.{eqb-true, false≢true}
 use Rattle.std.proofs.lemmas.Option.{none-some, same_Some}
 use Rattle.chk_base.specs.declared.place.Place.{Place}
 use Rattle.chk_base.specs.declared.text.Name.{Name}
-use Rattle.app_model.specs.declared.app.App.{App}
+use Rattle.application.specs.declared.app.App.{App}
 use Rattle.step_ir.specs.Fits.{IsServiceFit}
-use Rattle.c_expression.specs.declared.expression.Argument.{Argument}
-use Rattle.c_expression.specs.declared.expression.Call.{Call}
-use Rattle.c_expression.specs.declared.expression.RightSide.{RightSide}
-use Rattle.c_expression.specs.declared.expression.RightSide.TheVariants as rights
-use Rattle.c_expression.specs.declared.expression.TypeName.{TypeName}
-use Rattle.c_parse.specs.declared.statement.Declarator.{Declarator}
-use Rattle.c_parse.specs.declared.statement.Simple.{Simple}
-use Rattle.c_parse.specs.declared.statement.Simple.TheVariants as simples
-use Rattle.c_parse.specs.declared.statement.Start.{Start}
-use Rattle.c_parse.specs.declared.statement.Start.TheVariants as starts
-use Rattle.c_parse.specs.declared.unit.EntityKind.{EntityKind}
-use Rattle.c_parse.specs.declared.unit.External.{External}
-use Rattle.c_parse.specs.declared.unit.External.TheVariants as e
-use Rattle.c_parse.specs.declared.unit.Function.{Function}
-use Rattle.c_parse.specs.declared.unit.Unit.{Unit as WrittenUnit}
+use Rattle.c_unit.specs.declared.expression.Argument.{Argument}
+use Rattle.c_unit.specs.declared.expression.Call.{Call}
+use Rattle.c_unit.specs.declared.expression.RightSide.{RightSide}
+use Rattle.c_unit.specs.declared.expression.RightSide.TheVariants as rights
+use Rattle.c_unit.specs.declared.expression.TypeName.{TypeName}
+use Rattle.c_unit.specs.declared.statement.Declarator.{Declarator}
+use Rattle.c_unit.specs.declared.statement.Simple.{Simple}
+use Rattle.c_unit.specs.declared.statement.Simple.TheVariants as simples
+use Rattle.c_unit.specs.declared.statement.Start.{Start}
+use Rattle.c_unit.specs.declared.statement.Start.TheVariants as starts
+use Rattle.c_unit.specs.declared.unit.EntityKind.{EntityKind}
+use Rattle.c_unit.specs.declared.unit.External.{External}
+use Rattle.c_unit.specs.declared.unit.External.TheVariants as e
+use Rattle.c_unit.specs.declared.unit.Function.{Function}
+use Rattle.c_unit.specs.declared.unit.Unit.{Unit as WrittenUnit}
 use Rattle.c_rules.specs.declared.meaning.Meaning.{Meaning}
 use Rattle.c_rules.specs.declared.meaning.Meaning.TheVariants as m
 use Rattle.c_rules.specs.declared.meaning.ServiceName.{ServiceName}
@@ -37,13 +37,13 @@ use Rattle.c_rules.specs.UnitRules.{ninth_faults, parameters_faults, after_param
 use Rattle.c_rules.specs.Files.{nothing_of}
 use Rattle.c_rules.specs.Written.{WrittenStatement, WrittenBlock, NoStatement, StatementThen, WrittenBranches, NoBranch, BranchThen, written_block}
 use Rattle.c_rules.specs.Written as written
-use Rattle.c_types.specs.declared.typed.CType.{CType}
-use Rattle.c_types.specs.declared.typed.Taker.{Taker}
-use Rattle.c_types.specs.Conversions.{ctype_named}
-use Rattle.c_types.specs.Plain.{PlainExpr, PlainStatement, PlainBlock, PlainFunction, PlainEntity, PlainUnit, block}
-use Rattle.c_types.specs.Typed.{function_of, functions_in, entity_of, entity_in, typed, Fits}
-use Rattle.c_types.specs.TypedStatements.{set_of, set_element_of, taker_of, argument_meaning, task_of, resource_of, service_of, input_of, call_by, call_of, assign_of, simple_of, target_of, initial_of, declarators_of, start_of, step_of, typed_statement, typed_statements, typed_branches}
-use Rattle.c_types.specs.Views.{PlainBranch, chained, branched}
+use Rattle.typed_unit.specs.declared.typed.CType.{CType}
+use Rattle.typed_unit.specs.declared.typed.Taker.{Taker}
+use Rattle.typed_unit.specs.Conversions.{ctype_named}
+use Rattle.typed_unit.specs.Plain.{PlainExpr, PlainStatement, PlainBlock, PlainFunction, PlainEntity, PlainUnit, block}
+use Rattle.typed_unit.specs.Typed.{function_of, functions_in, entity_of, entity_in, typed, Fits}
+use Rattle.typed_unit.specs.TypedStatements.{set_of, set_element_of, taker_of, argument_meaning, task_of, resource_of, service_of, input_of, call_by, call_of, assign_of, simple_of, target_of, initial_of, declarators_of, start_of, step_of, typed_statement, typed_statements, typed_branches}
+use Rattle.typed_unit.specs.Views.{PlainBranch, chained, branched}
 use Rattle.scope_law.specs.Serving.{Serves, AllServe, AreServing}
 use Rattle.scope_law.proofs.Objects.{IsInApp, AreInApp, known_is_of, meaning_in_app}
 use Rattle.scope_law.proofs.Parts.{front_none, back_none, each_none, is_met, not_not, joined_at}

@@ -2,10 +2,10 @@
 use Rattle.std.proofs.Common.{◌≡◌, ℕ, ◌<◌, ◌≤◌, get_or, List, [], ◌++◌, length, Option, Some, None, ◌⊎◌, inl, inr, refl, sym, ◌∙◌}
 use Rattle.std.specs.List.{flat_map, slice_get}
 use Rattle.std.proofs.lemmas.Option.{none-some, slice_get_cases}
-use Rattle.app_model.specs.declared.app.App.{App}
-use Rattle.c_types.specs.declared.typed.GlobalVar.{GlobalVar}
-use Rattle.c_types.specs.declared.typed.Local.{Local}
-use Rattle.c_types.specs.Plain.{PlainFunction, PlainUnit}
+use Rattle.application.specs.declared.app.App.{App}
+use Rattle.typed_unit.specs.declared.typed.GlobalVar.{GlobalVar}
+use Rattle.typed_unit.specs.declared.typed.Local.{Local}
+use Rattle.typed_unit.specs.Plain.{PlainFunction, PlainUnit}
 use Rattle.static_rules.specs.Rules.{variable_faults, function_faults, local_faults, function_local_faults, entity_local_faults, calling_faults, resource_faults, body_faults, size_faults, faults}
 use Rattle.static_rules.specs.Sites.{function_bodies}
 use Rattle.scope_law.specs.Sizes.{AreFew}

@@ -4,16 +4,16 @@ use Rattle.std.specs.List.{flat_map}
 use Rattle.std.specs.Option.{option_map}
 use Rattle.std.proofs.lemmas.Bool.{eqb-true, not-false}
 use Rattle.chk_base.specs.declared.place.Place.{Place}
-use Rattle.c_expression.specs.declared.expression.Argument.{Argument}
-use Rattle.c_expression.specs.declared.expression.BinaryOperator.{BinaryOperator}
-use Rattle.c_expression.specs.declared.expression.BinaryOperator.TheVariants as binary
-use Rattle.c_expression.specs.declared.expression.Call.{Call}
-use Rattle.c_expression.specs.declared.expression.RightSide.{RightSide}
-use Rattle.c_expression.specs.declared.expression.RightSide.TheVariants as rights
-use Rattle.c_expression.specs.declared.expression.TypeName.{TypeName}
-use Rattle.c_parse.specs.declared.statement.Simple.{Simple}
-use Rattle.c_parse.specs.declared.statement.Simple.TheVariants as simples
-use Rattle.c_parse.specs.declared.unit.Parameter.{Parameter}
+use Rattle.c_unit.specs.declared.expression.Argument.{Argument}
+use Rattle.c_unit.specs.declared.expression.BinaryOperator.{BinaryOperator}
+use Rattle.c_unit.specs.declared.expression.BinaryOperator.TheVariants as binary
+use Rattle.c_unit.specs.declared.expression.Call.{Call}
+use Rattle.c_unit.specs.declared.expression.RightSide.{RightSide}
+use Rattle.c_unit.specs.declared.expression.RightSide.TheVariants as rights
+use Rattle.c_unit.specs.declared.expression.TypeName.{TypeName}
+use Rattle.c_unit.specs.declared.statement.Simple.{Simple}
+use Rattle.c_unit.specs.declared.statement.Simple.TheVariants as simples
+use Rattle.c_unit.specs.declared.unit.Parameter.{Parameter}
 use Rattle.c_rules.specs.declared.meaning.FunctionMeaning.{FunctionMeaning}
 use Rattle.c_rules.specs.declared.meaning.LocalMeaning.{LocalMeaning}
 use Rattle.c_rules.specs.declared.meaning.Meaning.{Meaning}
@@ -23,12 +23,12 @@ use Rattle.c_rules.specs.Meanings.{is_local, is_constant, is_input}
 use Rattle.c_rules.specs.Files.{Known}
 use Rattle.c_rules.specs.Rules.{Means, use_faults, target_faults, expression_faults, argument_faults, called_faults, call_faults, result_faults, right_faults, lone_call_faults}
 use Rattle.c_rules.specs.StatementRules.{simple_faults}
-use Rattle.c_types.specs.declared.typed.CType.{CType}
-use Rattle.c_types.specs.declared.typed.Taker.{Taker}
-use Rattle.c_types.specs.Plain.{PlainExpr, PlainStatement, PlainFunction, PlainUnit}
-use Rattle.c_types.specs.Conversions.{ctype_named, binary_of}
-use Rattle.c_types.specs.TypedExpressions.{typed_expression, variable_of}
-use Rattle.c_types.specs.TypedStatements.{set_of, set_element_of, taker_of, argument_of, arguments_from, parameters_of, input_of, call_by, call_of, assign_of, update_of, one_at, simple_of}
+use Rattle.typed_unit.specs.declared.typed.CType.{CType}
+use Rattle.typed_unit.specs.declared.typed.Taker.{Taker}
+use Rattle.typed_unit.specs.Plain.{PlainExpr, PlainStatement, PlainFunction, PlainUnit}
+use Rattle.typed_unit.specs.Conversions.{ctype_named, binary_of}
+use Rattle.typed_unit.specs.TypedExpressions.{typed_expression, variable_of}
+use Rattle.typed_unit.specs.TypedStatements.{set_of, set_element_of, taker_of, argument_of, arguments_from, parameters_of, input_of, call_by, call_of, assign_of, update_of, one_at, simple_of}
 use Rattle.lower_law.specs.Scoped.{AreScoped, IsScoped, IsTaker, IsTaken, IsFunction, StatementScoped, known_behind}
 use Rattle.scope_law.specs.Right.{IsCalled, IsCallIn}
 use Rattle.scope_law.proofs.Meant.{front_none, back_none, unbroken, IsThere, IsSigned, IsFound, IsMeant}

@@ -7,22 +7,22 @@ use Rattle.std.proofs.lemmas.Option.{none-some, same_Some}
 use Rattle.chk_base.specs.declared.word.Width.{Width}
 use Rattle.chk_base.specs.declared.word.Width.TheVariants as w
 use Rattle.chk_base.specs.Widths.{limit_of}
-use Rattle.app_model.specs.declared.app.App.{App}
-use Rattle.c_parse.specs.declared.unit.Constant.{Constant}
-use Rattle.c_parse.specs.declared.unit.External.{External}
-use Rattle.c_parse.specs.declared.unit.External.TheVariants as e
-use Rattle.c_parse.specs.declared.unit.Unit.{Unit as WrittenUnit}
-use Rattle.c_parse.specs.declared.unit.Variable.{Variable}
-use Rattle.c_parse.specs.declared.unit.Variable.TheVariants as v
+use Rattle.application.specs.declared.app.App.{App}
+use Rattle.c_unit.specs.declared.unit.Constant.{Constant}
+use Rattle.c_unit.specs.declared.unit.External.{External}
+use Rattle.c_unit.specs.declared.unit.External.TheVariants as e
+use Rattle.c_unit.specs.declared.unit.Unit.{Unit as WrittenUnit}
+use Rattle.c_unit.specs.declared.unit.Variable.{Variable}
+use Rattle.c_unit.specs.declared.unit.Variable.TheVariants as v
 use Rattle.c_rules.specs.Files.{Known, known_of, nothing_of}
 use Rattle.c_rules.specs.First.{when}
 use Rattle.c_rules.specs.UnitRules.{is_no_length, surplus_faults, variable_faults, declaration_faults, external_faults, names_faults, faults}
-use Rattle.c_types.specs.declared.typed.CType.{CType}
-use Rattle.c_types.specs.declared.typed.GlobalVar.{GlobalVar}
-use Rattle.c_types.specs.Conversions.{ctype_named, word_in}
-use Rattle.c_types.specs.Plain.{PlainUnit}
-use Rattle.c_types.specs.TypedExpressions.{length_of}
-use Rattle.c_types.specs.Typed.{constant_word, start_of, starts_of, global_of, global_declared, globals_in, typed, Fits}
+use Rattle.typed_unit.specs.declared.typed.CType.{CType}
+use Rattle.typed_unit.specs.declared.typed.GlobalVar.{GlobalVar}
+use Rattle.typed_unit.specs.Conversions.{ctype_named, word_in}
+use Rattle.typed_unit.specs.Plain.{PlainUnit}
+use Rattle.typed_unit.specs.TypedExpressions.{length_of}
+use Rattle.typed_unit.specs.Typed.{constant_word, start_of, starts_of, global_of, global_declared, globals_in, typed, Fits}
 use Rattle.scope_law.specs.Variables.{IsLengthFit, IsVariableFit, AreVariablesFit}
 use Rattle.scope_law.proofs.Parts.{front_none, back_none, each_none, is_met, not_not, joined_at}
 

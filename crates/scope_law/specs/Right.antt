@@ -1,7 +1,7 @@
 -- What is known of the names in a typed unit of a text that breaks no C rule, however deep calls nest.
 use Rattle.std.specs.Prelude.{◌≡◌, ℕ, ◌≤◌, nat_lt, List, length, Option, Some, None, slice_get}
-use Rattle.c_types.specs.declared.typed.Taker.{Taker}
-use Rattle.c_types.specs.Plain.{PlainExpr, PlainFunction, PlainEntity, PlainUnit}
+use Rattle.typed_unit.specs.declared.typed.Taker.{Taker}
+use Rattle.typed_unit.specs.Plain.{PlainExpr, PlainFunction, PlainEntity, PlainUnit}
 use Rattle.lower_law.specs.Scoped.{BlockScoped, IsBody, IsClosed, IsFunction, IsTaken}
 use Rattle.lower_law.specs.Translated.{entity_body}
 

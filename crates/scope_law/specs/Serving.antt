@@ -1,9 +1,9 @@
 -- What the services in a typed unit name.
 use Rattle.std.specs.Prelude.{◌≡◌, ℕ, Some, slice_get}
-use Rattle.app_model.specs.declared.app.App.{App}
+use Rattle.application.specs.declared.app.App.{App}
 use Rattle.step_ir.specs.Fits.{IsServiceFit}
-use Rattle.c_types.specs.Plain.{PlainStatement, PlainBlock, NoStatement, StatementThen, PlainFunction, PlainEntity, PlainUnit}
-use Rattle.c_types.specs.Plain as p
+use Rattle.typed_unit.specs.Plain.{PlainStatement, PlainBlock, NoStatement, StatementThen, PlainFunction, PlainEntity, PlainUnit}
+use Rattle.typed_unit.specs.Plain as p
 
 module _ (app : App) where
   -- the task or resource that a service in a statement names is one of the application's

@@ -1,6 +1,6 @@
 -- How many variables, functions and locals there are, by the rules S12 to S14.
 use Rattle.std.specs.Prelude.{◌≡◌, ℕ, ◌≤◌, length, Some, slice_get}
-use Rattle.c_types.specs.Plain.{PlainFunction, PlainEntity, PlainUnit}
+use Rattle.typed_unit.specs.Plain.{PlainFunction, PlainEntity, PlainUnit}
 
 pub record AreFew (u : PlainUnit) : Type 0 where
   pub variables : length u.globals ≤ 256

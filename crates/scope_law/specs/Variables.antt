@@ -1,7 +1,7 @@
 -- The lengths and the start values of file-level variables.
 use Rattle.std.specs.Prelude.{◌≡◌, ℕ, ◌<◌, ◌≤◌, All, List, Option, Some, None, slice_get}
 use Rattle.chk_base.specs.Widths.{limit_of}
-use Rattle.c_types.specs.declared.typed.GlobalVar.{GlobalVar}
+use Rattle.typed_unit.specs.declared.typed.GlobalVar.{GlobalVar}
 
 -- an array has 1 to 64 elements
 abbrev pub IsLengthFit : Option ℕ → Type 0

@@ -1,8 +1,8 @@
 // Typed units of texts that break no rule.
 ghost use Rattle.std.specs.Prelude.{◌≡◌, ℕ, ◌+◌, ◌<◌, [], length};
-ghost use Rattle.app_model.specs.declared.app.App.{App};
-ghost use Rattle.c_types.specs.Plain.{PlainUnit};
-ghost use Rattle.c_types.specs.Typed.{Fits};
+ghost use Rattle.application.specs.declared.app.App.{App};
+ghost use Rattle.typed_unit.specs.Plain.{PlainUnit};
+ghost use Rattle.typed_unit.specs.Typed.{Fits};
 ghost use Rattle.static_rules.specs.Rules.{faults};
 ghost use Rattle.scope_law.specs.Right.{AreRight, HasBody};
 ghost use Rattle.scope_law.specs.Serving.{AreServing};

@@ -10,11 +10,11 @@ use Rattle.c_rules.proofs.Firsts.{first_of_append}
 use Rattle.std.specs.Option.{option_map}
 use Rattle.std.specs.List.{slice_get}
 use Rattle.std.proofs.lemmas.Option.{slice_get-map}
-use Rattle.c_types.specs.declared.typed.GlobalVar.{GlobalVar}
-use Rattle.c_types.specs.declared.typed.TypedEntity.{TypedEntity}
-use Rattle.c_types.specs.declared.typed.TypedFunction.{TypedFunction}
-use Rattle.c_types.specs.declared.typed.TypedUnit.{TypedUnit}
-use Rattle.c_types.specs.Views.{function_of, entity_of, unit_of}
+use Rattle.typed_unit.specs.declared.typed.GlobalVar.{GlobalVar}
+use Rattle.typed_unit.specs.declared.typed.TypedEntity.{TypedEntity}
+use Rattle.typed_unit.specs.declared.typed.TypedFunction.{TypedFunction}
+use Rattle.typed_unit.specs.declared.typed.TypedUnit.{TypedUnit}
+use Rattle.typed_unit.specs.Views.{function_of, entity_of, unit_of}
 use Rattle.static_rules.specs.declared.site.Site.{Site}
 use Rattle.static_rules.specs.Chains.{body, all_below, reaches, sites_of_those, reached_sites}
 use Rattle.static_rules.specs.Found.{IsTable}

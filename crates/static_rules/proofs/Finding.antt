@@ -5,7 +5,7 @@ use Rattle.std.proofs.lemmas.List.Concat.{flat_map-append}
 use Rattle.std.proofs.lemmas.Bool.{cases_eq, or_left, or_right, eq-eqb, ne_eqb}
 use Rattle.std.proofs.lemmas.List.{append-nil, take_more, length-set, length-replicate, get_or-set_same, get_or-set_other, get_or-replicate}
 use Rattle.std.proofs.lemmas.List.Folds.{list_any-append, list_any_more}
-use Rattle.app_model.specs.Levels.{has_number}
+use Rattle.application.specs.Levels.{has_number}
 use Rattle.static_rules.specs.declared.site.Site.{Site}
 use Rattle.static_rules.specs.Chains.{is_call_of, calls, body}
 use Rattle.static_rules.specs.Found.{IsTable, Finds}

@@ -4,7 +4,7 @@ use Rattle.std.specs.List.{flat_map}
 use Rattle.std.proofs.lemmas.Bool.{cases_lt, eqb-true, eq-eqb, or_cases, or_left, or_right, and_parts, and_from, false≢true}
 use Rattle.std.proofs.lemmas.List.{get_or_past}
 use Rattle.std.proofs.lemmas.List.Folds.{list_any-append}
-use Rattle.app_model.specs.Levels.{has_number}
+use Rattle.application.specs.Levels.{has_number}
 use Rattle.static_rules.specs.declared.site.Site.{Site}
 use Rattle.static_rules.specs.Chains.{is_call_of, calls, body, any_below, called_after, reaches}
 use Rattle.static_rules.specs.Found.{IsTable, Finds}

@@ -4,16 +4,16 @@ use Rattle.std.specs.List.{flat_map}
 use Rattle.std.proofs.lemmas.List.{drop_more, append-nil, map-append, take_more}
 use Rattle.std.proofs.lemmas.List.Concat.{flat_map-append}
 use Rattle.chk_base.specs.declared.place.Place.{Place}
-use Rattle.c_types.specs.declared.typed.TypedBranch.{TypedBranch, out-TypedBranch, fold_out-TypedBranch}
-use Rattle.c_types.specs.declared.typed.TypedEntity.{TypedEntity}
-use Rattle.c_types.specs.declared.typed.TypedExpr.{TypedExpr}
-use Rattle.c_types.specs.declared.typed.TypedFunction.{TypedFunction}
-use Rattle.c_types.specs.declared.typed.TypedStatement.{TypedStatement, fold-roll-TypedStatement}
-use Rattle.c_types.specs.declared.typed.TypedStatement.TheOpen.{TypedStatement-F}
-use Rattle.c_types.specs.declared.typed.TypedStatement.TheVariants as s
-use Rattle.c_types.specs.declared.typed.TypedStatement.TheVariants.{rolls-If, rolls-While, rolls-For}
-use Rattle.c_types.specs.Plain.{PlainStatement, PlainBlock, NoStatement}
-use Rattle.c_types.specs.Views.{PlainBranch, chained, branched, expr_of, statement_layer, branch_layer, statement_of, branch_of, block_of, function_of, entity_of}
+use Rattle.typed_unit.specs.declared.typed.TypedBranch.{TypedBranch, out-TypedBranch, fold_out-TypedBranch}
+use Rattle.typed_unit.specs.declared.typed.TypedEntity.{TypedEntity}
+use Rattle.typed_unit.specs.declared.typed.TypedExpr.{TypedExpr}
+use Rattle.typed_unit.specs.declared.typed.TypedFunction.{TypedFunction}
+use Rattle.typed_unit.specs.declared.typed.TypedStatement.{TypedStatement, fold-roll-TypedStatement}
+use Rattle.typed_unit.specs.declared.typed.TypedStatement.TheOpen.{TypedStatement-F}
+use Rattle.typed_unit.specs.declared.typed.TypedStatement.TheVariants as s
+use Rattle.typed_unit.specs.declared.typed.TypedStatement.TheVariants.{rolls-If, rolls-While, rolls-For}
+use Rattle.typed_unit.specs.Plain.{PlainStatement, PlainBlock, NoStatement}
+use Rattle.typed_unit.specs.Views.{PlainBranch, chained, branched, expr_of, statement_layer, branch_layer, statement_of, branch_of, block_of, function_of, entity_of}
 use Rattle.static_rules.specs.declared.site.Site.{Site}
 use Rattle.static_rules.specs.Sites.{sites_in, sites_of, branch_sites, statement_sites, block_sites, branches_sites, function_bodies}
 use Rattle.static_rules.specs.Rules.{first_sites}

@@ -1,13 +1,13 @@
 -- The rules on small units, computed.
 use Rattle.std.proofs.Common.{◌≡◌, ℕ, true, false, [], ◌∷◌, Some, None, refl}
 use Rattle.chk_base.specs.declared.place.Place.{Place}
-use Rattle.app_model.specs.declared.app.App.{App}
-use Rattle.app_model.specs.declared.app.Class.TheVariants.{Bcc1}
-use Rattle.app_model.specs.declared.app.Task.{Task}
-use Rattle.c_parse.specs.declared.unit.EntityKind.TheVariants as kinds
+use Rattle.application.specs.declared.app.App.{App}
+use Rattle.application.specs.declared.app.Class.TheVariants.{Bcc1}
+use Rattle.application.specs.declared.app.Task.{Task}
+use Rattle.c_unit.specs.declared.unit.EntityKind.TheVariants as kinds
 use Rattle.c_rules.specs.declared.first.Fault.{Fault}
-use Rattle.c_types.specs.Plain.{PlainBlock, PlainEntity, PlainFunction, PlainUnit, block}
-use Rattle.c_types.specs.Plain as p
+use Rattle.typed_unit.specs.Plain.{PlainBlock, PlainEntity, PlainFunction, PlainUnit, block}
+use Rattle.typed_unit.specs.Plain as p
 use Rattle.step_ir.specs.declared.event.Service.TheVariants as services
 use Rattle.static_rules.specs.declared.site.Site.{Site}
 use Rattle.static_rules.specs.declared.site.Site.TheVariants as sites

@@ -1,10 +1,10 @@
 -- Units that are checked for an application.
 use Rattle.std.specs.Prelude.{◌≡◌, []}
-use Rattle.app_model.specs.declared.app.App.{App}
-use Rattle.c_types.specs.declared.typed.TypedUnit.{TypedUnit}
-use Rattle.c_types.specs.Typed as typed
-use Rattle.c_types.specs.Plain.{PlainUnit}
-use Rattle.c_types.specs.Views.{unit_of}
+use Rattle.application.specs.declared.app.App.{App}
+use Rattle.typed_unit.specs.declared.typed.TypedUnit.{TypedUnit}
+use Rattle.typed_unit.specs.Typed as typed
+use Rattle.typed_unit.specs.Plain.{PlainUnit}
+use Rattle.typed_unit.specs.Views.{unit_of}
 use Rattle.c_rules.specs.First.{IsFirst}
 use Rattle.static_rules.specs.declared.check.RuleFault.{RuleFault}
 use Rattle.static_rules.specs.declared.check.RuleFault.TheVariants.{Rule, Memory}

@@ -1,6 +1,6 @@
 -- Functions that are found one after another.
 use Rattle.std.specs.Prelude.{◌≡◌, ℕ, ◌<◌, Bool, false, ◌||◌, List, length, get_or}
-use Rattle.app_model.specs.Levels.{has_number}
+use Rattle.application.specs.Levels.{has_number}
 
 -- the flags are those of a test, for each function below a number
 pub record IsTable (flags : List Bool) (count : ℕ) (test : ℕ → Bool) : Type 0 where

@@ -3,11 +3,11 @@ use Rattle.std.specs.Prelude.{List, [], ◌∷◌, ◌++◌, map, Option, Some, 
 use Rattle.chk_base.specs.declared.place.Place.{Place}
 use Rattle.step_ir.specs.declared.event.Service.{Service}
 use Rattle.step_ir.specs.declared.event.Service.TheVariants as services
-use Rattle.c_types.specs.declared.typed.TypedBranch.{TypedBranch}
-use Rattle.c_types.specs.declared.typed.TypedStatement.{TypedStatement}
-use Rattle.c_types.specs.Plain.{PlainStatement, PlainBlock, NoStatement, StatementThen, PlainFunction}
-use Rattle.c_types.specs.Plain as p
-use Rattle.c_types.specs.Views.{PlainBranch, branch_of, statement_of, block_of}
+use Rattle.typed_unit.specs.declared.typed.TypedBranch.{TypedBranch}
+use Rattle.typed_unit.specs.declared.typed.TypedStatement.{TypedStatement}
+use Rattle.typed_unit.specs.Plain.{PlainStatement, PlainBlock, NoStatement, StatementThen, PlainFunction}
+use Rattle.typed_unit.specs.Plain as p
+use Rattle.typed_unit.specs.Views.{PlainBranch, branch_of, statement_of, block_of}
 use Rattle.static_rules.specs.declared.site.Site.{Site}
 use Rattle.static_rules.specs.declared.site.Site.TheVariants as sites
 

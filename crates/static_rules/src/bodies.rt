@@ -1,16 +1,16 @@
 // The rules on which bodies there are.
 ghost use Rattle.std.specs.Prelude.{◌≡◌, ◌+◌, IfOk, [], map};
 ghost use Rattle.std.specs.List.{flat_map};
-ghost use Rattle.c_types.specs.Views.{unit_of, entity_of};
+ghost use Rattle.typed_unit.specs.Views.{unit_of, entity_of};
 ghost use Rattle.c_rules.specs.First.{first_of};
 ghost use Rattle.static_rules.specs.Rules.{nameless_rule, nameless_faults, is_kind, repeat_faults, is_body_of, has_body, lacks_body, body_faults};
 
-use app_model::app::App;
-use c_parse::unit::EntityKind;
+use application::app::App;
 use c_rules::first::First;
-use c_types::typed::{TypedEntity, TypedUnit};
+use c_unit::unit::EntityKind;
 use oil_rules::names::Names;
 use std::alloc::{AllocError, Global};
+use typed_unit::typed::{TypedEntity, TypedUnit};
 
 fn nameless_rule(kind: EntityKind) -> u8
     ensures { result ≡ nameless_rule kind }

@@ -1,7 +1,7 @@
 // The rules on calls.
 ghost use Rattle.std.specs.Prelude.{◌≡◌, IfOk, None, length, [], map, if◌then◌else◌};
 ghost use Rattle.std.specs.List.{flat_map};
-ghost use Rattle.c_types.specs.Views.{entity_of};
+ghost use Rattle.typed_unit.specs.Views.{entity_of};
 ghost use Rattle.c_rules.specs.First.{first_of};
 ghost use Rattle.static_rules.specs.Chains.{body, all_below, called_after, reaches};
 ghost use Rattle.static_rules.specs.Found.{IsTable};
@@ -11,8 +11,8 @@ use crate::collect::first_sites;
 use crate::found::{body, called_after, reached_from};
 use crate::site::{Site, Sites};
 use c_rules::first::First;
-use c_types::typed::TypedEntity;
 use std::alloc::{AllocError, Global};
+use typed_unit::typed::TypedEntity;
 
 #[tactic(auto, unfolding(crate::specs::Rules::call_faults))]
 fn seeing_call(first: First, function: usize, site: Site) -> First

@@ -1,8 +1,8 @@
 // Units that are checked.
 ghost use Rattle.std.specs.Prelude.{◌≡◌, IfOk, IfErr, MatchOption, []};
-ghost use Rattle.app_model.specs.InOrder.{IsInOrder};
-ghost use Rattle.c_types.specs.Typed as typed_units;
-ghost use Rattle.c_types.specs.Views.{unit_of};
+ghost use Rattle.application.specs.InOrder.{IsInOrder};
+ghost use Rattle.typed_unit.specs.Typed as typed_units;
+ghost use Rattle.typed_unit.specs.Views.{unit_of};
 ghost use Rattle.c_rules.specs.First.{IsFirst};
 ghost use Rattle.static_rules.specs.Rules.{faults};
 ghost use Rattle.static_rules.specs.Checked.{Fits, IsRefusal};
@@ -12,12 +12,12 @@ use crate::chains::first_of_calls;
 use crate::collect::function_bodies;
 use crate::resources::seeing_resources;
 use crate::sizes::seeing_sizes;
-use app_model::app::App;
+use application::app::App;
 use c_rules::first::Fault;
-use c_types::typed::TypedUnit;
 use chk_base::place::Place;
 use std::alloc::{AllocError, Global};
 use std::marker::Model;
+use typed_unit::typed::TypedUnit;
 
 /// Why a unit is refused: `Rule` has the number, 1 to 14, and the place of the first rule that is broken, which is that at the least place,
 /// and there that with the least number; `Memory` is want of memory.
@@ -34,8 +34,8 @@ pub struct Checked {
 }
 
 impl Model for Checked {
-    ghost use Rattle.c_types.specs.declared.typed.TypedUnit.{TypedUnit};
-    ghost use Rattle.c_types.specs.contracts.typed.TypedUnit as u;
+    ghost use Rattle.typed_unit.specs.declared.typed.TypedUnit.{TypedUnit};
+    ghost use Rattle.typed_unit.specs.contracts.typed.TypedUnit as u;
 
     ghost Value = { TypedUnit };
 

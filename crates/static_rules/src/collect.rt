@@ -1,16 +1,16 @@
 // The sites of bodies.
 ghost use Rattle.std.specs.Prelude.{◌≡◌, OnOk, IfOk, [], ◌∷◌, ◌++◌, map};
 ghost use Rattle.std.specs.List.{flat_map};
-ghost use Rattle.c_types.specs.Views.{function_of, entity_of};
+ghost use Rattle.typed_unit.specs.Views.{function_of, entity_of};
 ghost use Rattle.static_rules.specs.Sites.{argument_at, service_sites, statement_sites, block_sites, branches_sites, function_bodies};
 ghost use Rattle.static_rules.specs.Rules.{first_sites};
 
 use crate::site::{Bodies, Site, Sites};
-use c_types::typed::{TypedBranch, TypedEntity, TypedFunction, TypedStatement};
 use chk_base::place::Place;
 use sqlite_items::Items;
 use std::alloc::{AllocError, Global};
 use step_ir::event::Service;
+use typed_unit::typed::{TypedBranch, TypedEntity, TypedFunction, TypedStatement};
 
 fn argument_at(place: Place, argument: Option<Place>) -> Place
     ensures { result ≡ argument_at place argument }

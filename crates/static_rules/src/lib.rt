@@ -10,5 +10,3 @@ pub mod law;
 mod resources;
 pub mod site;
 mod sizes;
-#[cfg(test)]
-mod tests;

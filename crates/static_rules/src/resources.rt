@@ -2,8 +2,8 @@
 ghost use Rattle.std.specs.Prelude.{◌≡◌, false, IfOk, length, get_or, [], map, if◌then◌else◌};
 ghost use Rattle.std.specs.List.{flat_map};
 ghost use Rattle.std.specs.Option.{option_copied};
-ghost use Rattle.app_model.specs.Levels.{has_number, is_number, task_declares, routine_declares};
-ghost use Rattle.c_types.specs.Views.{entity_of};
+ghost use Rattle.application.specs.Levels.{has_number, is_number, task_declares, routine_declares};
+ghost use Rattle.typed_unit.specs.Views.{entity_of};
 ghost use Rattle.c_rules.specs.First.{first_of};
 ghost use Rattle.static_rules.specs.Chains.{body, sites_of_those, reaches, reached_sites};
 ghost use Rattle.static_rules.specs.Found.{IsTable};
@@ -13,10 +13,10 @@ ghost use Rattle.static_rules.specs.Rules.{is_internal, is_scheduler, use_faults
 use crate::collect::sites_of;
 use crate::found::{body, reached_from};
 use crate::site::{Site, Sites};
-use app_model::app::{App, Resource, Routine, Task};
+use application::app::{App, Resource, Routine, Task};
 use c_rules::first::First;
-use c_types::typed::TypedEntity;
 use std::alloc::{AllocError, Global};
+use typed_unit::typed::TypedEntity;
 
 fn is_internal(resource: Option<&Resource>) -> bool
     ensures { result ≡ is_internal (option_copied resource.entry) }

@@ -2,12 +2,12 @@
 ghost use Rattle.std.specs.Prelude.{◌≡◌, map, option_map};
 ghost use Rattle.std.specs.List.{flat_map};
 ghost use Rattle.std.specs.Option.{option_copied};
-ghost use Rattle.c_types.specs.Views.{unit_of, function_of, entity_of};
+ghost use Rattle.typed_unit.specs.Views.{unit_of, function_of, entity_of};
 ghost use Rattle.c_rules.specs.First.{first_of};
 ghost use Rattle.static_rules.specs.Rules.{variable_faults, function_faults, local_faults, function_local_faults, entity_local_faults, size_faults};
 
 use c_rules::first::First;
-use c_types::typed::{GlobalVar, Local, TypedEntity, TypedFunction, TypedUnit};
+use typed_unit::typed::{GlobalVar, Local, TypedEntity, TypedFunction, TypedUnit};
 
 fn seeing_variable(first: First, variable: Option<&GlobalVar>) -> First
     ensures { result.fault ≡ first_of first.fault (variable_faults (option_copied variable.entry)) }

@@ -1,6 +1,6 @@
 -- Examples, computed on both schedulers.
 use Rattle.std.specs.Prelude.{◌≡◌, ℕ, true, false, List, [], ◌∷◌, ◌++◌, Some, None, option_map, refl}
-use Rattle.app_model.specs.declared.app.App.{App}
+use Rattle.application.specs.declared.app.App.{App}
 use Rattle.chk_base.specs.declared.expr.BinOp.TheVariants as bin
 use Rattle.chk_base.specs.declared.expr.UnOp.TheVariants as un
 use Rattle.chk_base.specs.declared.word.Width.TheVariants.{W32}

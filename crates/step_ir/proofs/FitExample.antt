@@ -1,6 +1,6 @@
 -- A code that fits an application: one task, which reads the one global, writes it back and terminates.
 use Rattle.std.proofs.Common.{◌≡◌, ℕ, zero, suc, ◌<◌, ◌≤◌, true, false, [], ◌∷◌, length, Option, Some, None, refl, subst, arith, slice_get}
-use Rattle.app_model.specs.declared.app.App.{App}
+use Rattle.application.specs.declared.app.App.{App}
 use Rattle.chk_base.specs.declared.expr.Expr.TheVariants as expr
 use Rattle.chk_base.specs.declared.word.Width.TheVariants.{W8, W32}
 use Rattle.chk_base.specs.Widths.{limit_of}

@@ -1,9 +1,9 @@
 -- The greatest of levels: none of the levels is above it, and it isn't above what none of them is above.
 use Rattle.std.proofs.Common.{◌≡◌, ℕ, zero, suc, ◌≤◌, max, Bool, true, false, List, [], ◌∷◌, ◌++◌, Option, Some, None, refl, sym, subst, arith, slice_get, if◌then◌else◌}
 use Rattle.std.specs.Prelude.{filter}
-use Rattle.app_model.specs.declared.app.Routine.{Routine}
-use Rattle.app_model.specs.declared.app.Task.{Task}
-use Rattle.app_model.specs.Levels.{greatest, levels_of, routine_levels_of}
+use Rattle.application.specs.declared.app.Routine.{Routine}
+use Rattle.application.specs.declared.app.Task.{Task}
+use Rattle.application.specs.Levels.{greatest, levels_of, routine_levels_of}
 
 -- the levels of tasks that pass a test
 module _ (test : Task → Bool) where

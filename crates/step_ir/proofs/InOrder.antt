@@ -3,12 +3,12 @@ use Rattle.std.proofs.Common.{◌≡◌, ℕ, zero, suc, ◌+◌, ◌-◌, ◌<�
 use Rattle.std.proofs.lemmas.Bool.Decides.{nat_tests}
 use Rattle.std.proofs.lemmas.Option.{slice_get_within, get_or_from_slice_get}
 use Rattle.std.specs.Prelude.{filter}
-use Rattle.app_model.specs.declared.app.App.{App}
-use Rattle.app_model.specs.declared.app.Resource.{Resource}
-use Rattle.app_model.specs.declared.app.Routine.{Routine}
-use Rattle.app_model.specs.declared.app.Task.{Task}
-use Rattle.app_model.specs.InOrder.{IsInOrder, IsTaskInOrder, IsRoutineInOrder, AreCeilings}
-use Rattle.app_model.specs.Levels.{ceiling_of, highest_task_level, internal_level, is_number, levels_of, routine_declares, routine_levels_of, task_declares}
+use Rattle.application.specs.declared.app.App.{App}
+use Rattle.application.specs.declared.app.Resource.{Resource}
+use Rattle.application.specs.declared.app.Routine.{Routine}
+use Rattle.application.specs.declared.app.Task.{Task}
+use Rattle.application.specs.InOrder.{IsInOrder, IsTaskInOrder, IsRoutineInOrder, AreCeilings}
+use Rattle.application.specs.Levels.{ceiling_of, highest_task_level, internal_level, is_number, levels_of, routine_declares, routine_levels_of, task_declares}
 use Rattle.step_ir.proofs.Greatest.{level_in, level_in_all, levels_at_most, routine_levels_at_most, all_levels_at_most, greatest-append}
 use Rattle.step_ir.specs.Setting.{highest_level, setting_of, by_kind, resource_ceiling, started_from, IsSound, AreTasks}
 

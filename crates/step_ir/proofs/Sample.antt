@@ -1,11 +1,11 @@
 -- How the examples are written: small applications, bodies as lists of actions, and the events of both schedulers.
 use Rattle.std.specs.Prelude.{ℕ, ◌+◌, Bool, true, false, if◌then◌else◌, ◌==◌, List, [], ◌∷◌, Option, Some, None, slice_get, replicate}
-use Rattle.app_model.specs.declared.app.App.{App}
-use Rattle.app_model.specs.declared.app.Class.TheVariants.{Bcc2}
-use Rattle.app_model.specs.declared.app.Entity.{Entity}
-use Rattle.app_model.specs.declared.app.Resource.{Resource}
-use Rattle.app_model.specs.declared.app.Routine.{Routine}
-use Rattle.app_model.specs.declared.app.Task.{Task}
+use Rattle.application.specs.declared.app.App.{App}
+use Rattle.application.specs.declared.app.Class.TheVariants.{Bcc2}
+use Rattle.application.specs.declared.app.Entity.{Entity}
+use Rattle.application.specs.declared.app.Resource.{Resource}
+use Rattle.application.specs.declared.app.Routine.{Routine}
+use Rattle.application.specs.declared.app.Task.{Task}
 use Rattle.chk_base.specs.declared.expr.BinOp.TheVariants as bin
 use Rattle.chk_base.specs.declared.place.Place.{Place}
 use Rattle.chk_base.specs.declared.word.Width.TheVariants.{W8, W32}

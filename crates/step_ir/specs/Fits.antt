@@ -1,7 +1,7 @@
 -- Codes that fit an application: what their points name exists and is of the kind that is needed.
 use Rattle.std.specs.Prelude.{◌≡◌, ◌≢◌, ℕ, ◌+◌, ◌<◌, ◌≤◌, Bool, true, false, List, [], ◌∷◌, length, Option, Some, None, slice_get}
-use Rattle.app_model.specs.declared.app.App.{App}
-use Rattle.app_model.specs.InOrder.{IsResource}
+use Rattle.application.specs.declared.app.App.{App}
+use Rattle.application.specs.InOrder.{IsResource}
 use Rattle.chk_base.specs.declared.word.Width.TheVariants.{W32}
 use Rattle.chk_base.specs.Term.{Term, Const, Cell, Pick, Un, Bin, Choose}
 use Rattle.chk_base.specs.Widths.{bits_of, limit_of}

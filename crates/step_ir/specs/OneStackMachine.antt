@@ -1,6 +1,6 @@
 -- The one-stack machine: one stack of entities and a list of fresh requests, with no preempted task to put back (after Kidd, Jagannathan and Vitek).
 use Rattle.std.specs.Prelude.{◌≡◌, ℕ, ◌+◌, ◌≤◌, Bool, true, false, ◌&&◌, ◌||◌, List, [], ◌∷◌, ◌++◌, length, Option, Some, None, if◌then◌else◌, nat_lt, ◌==◌, option_map}
-use Rattle.app_model.specs.Levels.{has_number}
+use Rattle.application.specs.Levels.{has_number}
 use Rattle.chk_base.specs.declared.place.Place.{Place}
 use Rattle.step_ir.specs.declared.event.Choice.{Choice}
 use Rattle.step_ir.specs.declared.event.Choice.TheVariants.{Go, GoWith, Arrive}

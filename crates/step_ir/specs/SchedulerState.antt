@@ -1,6 +1,6 @@
 -- The state of the standard's scheduler: a list of ready entries for each level, and tasks that are put back into it (OSEK OS 2.2.3, 4).
 use Rattle.std.specs.Prelude.{ℕ, zero, suc, Bool, false, ◌||◌, List, [], ◌∷◌, Option, Some, None}
-use Rattle.app_model.specs.Levels.{has_number}
+use Rattle.application.specs.Levels.{has_number}
 use Rattle.step_ir.specs.declared.event.Section.{Section}
 use Rattle.step_ir.specs.EntityStep.{Behaviour}
 use Rattle.step_ir.specs.Services.{Scene}

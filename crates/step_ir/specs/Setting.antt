@@ -1,10 +1,10 @@
 -- An application as a scheduler sees it: tasks and routines by their numbers, with their levels (OSEK OS 2.2.3, 4.5, 8.5).
 use Rattle.std.specs.Prelude.{◌≡◌, ℕ, ◌+◌, ◌-◌, ◌<◌, ◌≤◌, max, Bool, true, false, not, ◌&&◌, List, [], ◌∷◌, length, Option, Some, None, if◌then◌else◌, nat_lt, slice_get, ◌==◌}
-use Rattle.app_model.specs.declared.app.App.{App}
-use Rattle.app_model.specs.declared.app.Resource.{Resource}
-use Rattle.app_model.specs.declared.app.Routine.{Routine}
-use Rattle.app_model.specs.declared.app.Task.{Task}
-use Rattle.app_model.specs.Levels.{highest_task_level}
+use Rattle.application.specs.declared.app.App.{App}
+use Rattle.application.specs.declared.app.Resource.{Resource}
+use Rattle.application.specs.declared.app.Routine.{Routine}
+use Rattle.application.specs.declared.app.Task.{Task}
+use Rattle.application.specs.Levels.{highest_task_level}
 
 -- what a scheduler has to know of an application. A number that is no task may have no request, and one that is no resource has the ceiling 0
 pub record Setting : Type 0 where

@@ -2,7 +2,7 @@
 ghost use Rattle.std.specs.Prelude.{◌≡◌, OnOk, OnErr, length, slice_get, [], ◌∷◌, ◌++◌};
 ghost use Rattle.std.specs.Option.{option_copied};
 
-use app_model::app::Entity;
+use application::app::Entity;
 use chk_base::place::Place;
 use chk_base::word::Word;
 use std::alloc::{AllocError, Global};

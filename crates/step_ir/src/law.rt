@@ -1,63 +1,28 @@
-// Laws of both schedulers: that they have the same traces, and what else is known of levels, lists and stacks.
+// Laws of codes, levels, lists and stacks, which both schedulers keep.
 ghost use Rattle.std.specs.Prelude.{◌≡◌, ◌<◌, ◌≤◌, ◌*◌, ℕ, true, List, [], ◌∷◌, length, Option, Some, None};
-ghost use Rattle.app_model.specs.declared.app.App.{App};
-ghost use Rattle.app_model.specs.declared.app.Entity.{Entity};
-ghost use Rattle.app_model.specs.InOrder.{IsInOrder};
+ghost use Rattle.application.specs.declared.app.App.{App};
+ghost use Rattle.application.specs.declared.app.Entity.{Entity};
+ghost use Rattle.application.specs.InOrder.{IsInOrder};
 ghost use Rattle.chk_base.specs.Term.{Term};
 ghost use Rattle.chk_base.specs.WordValue.{IsWithin};
 ghost use Rattle.step_ir.specs.declared.code.Code.{Code as Lowered};
-ghost use Rattle.step_ir.specs.declared.event.Choice.{Choice as Chosen};
-ghost use Rattle.step_ir.specs.declared.event.Event.{Event as Happened};
 ghost use Rattle.step_ir.specs.declared.event.Failure.{Failure as Failed};
 ghost use Rattle.step_ir.specs.declared.event.Service.TheVariants.{Activate, Chain};
 ghost use Rattle.step_ir.specs.Agreement.{AllBelow, IsForemost, Rises};
-ghost use Rattle.step_ir.specs.EntityStep.{Behaviour, TellsNoFailures};
+ghost use Rattle.step_ir.specs.EntityStep.{TellsNoFailures};
 ghost use Rattle.step_ir.specs.Fits.{AreSetsFit, ReadsBetween, bit_count};
 ghost use Rattle.step_ir.specs.Numbers.{AreUnder, times};
 ghost use Rattle.step_ir.specs.OneStackMachine;
 ghost use Rattle.step_ir.specs.Points.{cells_of, first_cell};
-ghost use Rattle.step_ir.specs.PointStep.{Bits, behaviour_of};
+ghost use Rattle.step_ir.specs.PointStep.{behaviour_of};
 ghost use Rattle.step_ir.specs.Reschedule.{highest};
 ghost use Rattle.step_ir.specs.SchedulerState.{Entry};
 ghost use Rattle.step_ir.specs.Services.{Scene, fault_of, leaving};
 ghost use Rattle.step_ir.specs.Setting.{IsSound, Setting, current, foremost, setting_of};
-ghost use Rattle.step_ir.specs.TraceEquality.{HaveSameTraces};
 
-/// Whatever the entities do, both schedulers do the same, for every sound application and so for every one in order, on whose stack at most
-/// 16 entities stand.
-pub fn same_traces<S, G>()
-    ensures sound { (app : Setting) → IsSound app → (beh : Behaviour S G) (globals : G)
-        → HaveSameTraces app beh globals }
-    ensures in_order { (app : App) → IsInOrder app → (beh : Behaviour S G) (globals : G)
-        → HaveSameTraces (setting_of app) beh globals }
-    ensures depth { (app : App) → IsInOrder app → (beh : Behaviour S G) (globals : G)
-        (choices : List Chosen) (events : List Happened) (m : OneStackMachine.Stacked S G)
-        → OneStackMachine.run (setting_of app) beh choices
-        (OneStackMachine.start (setting_of app) beh globals) ≡ Some (events, m)
-        → length m.stack ≤ 16 }
-{}
-
-/// The same where the globals are cells and the entities have any state of their own.
-pub fn same_traces_over_cells<S>()
-    ensures in_order { (app : App) → IsInOrder app → (beh : Behaviour S Bits) (cells : Bits)
-        → HaveSameTraces (setting_of app) beh cells }
-    ensures depth { (app : App) → IsInOrder app → (beh : Behaviour S Bits) (cells : Bits)
-        (choices : List Chosen) (events : List Happened) (m : OneStackMachine.Stacked S Bits)
-        → OneStackMachine.run (setting_of app) beh choices
-        (OneStackMachine.start (setting_of app) beh cells) ≡ Some (events, m)
-        → length m.stack ≤ 16 }
-{}
-
-/// The same over every code, from any contents of its cells.
-pub fn same_traces_of_codes()
-    ensures in_order { (app : App) → IsInOrder app → (code : Lowered) (cells : Bits)
-        → HaveSameTraces (setting_of app) (behaviour_of code) cells }
-    ensures no_failures { (code : Lowered) → TellsNoFailures (behaviour_of code) }
-    ensures depth { (app : App) → IsInOrder app → (code : Lowered) (cells : Bits)
-        (choices : List Chosen) (events : List Happened) (m : OneStackMachine.Stacked ℕ Bits)
-        → OneStackMachine.run (setting_of app) (behaviour_of code) choices
-        (OneStackMachine.start (setting_of app) (behaviour_of code) cells) ≡ Some (events, m)
-        → length m.stack ≤ 16 }
+/// The entities of a code tell no failure of their own.
+pub fn codes_tell_no_failures()
+    ensures { (code : Lowered) → TellsNoFailures (behaviour_of code) }
 {}
 
 /// An application in order is sound, and a current level is at least the run level and at most the top.

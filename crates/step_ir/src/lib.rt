@@ -1,4 +1,4 @@
-// The steps of an application: points and events, the scheduler of the standard and the machine with one stack, and that they do the same.
+// The steps of an application: points and events, the scheduler of the standard and the machine with one stack.
 #![tactic(auto)]
 
 pub mod code;

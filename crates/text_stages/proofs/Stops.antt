@@ -1,15 +1,15 @@
 -- The refusals of the stages are those of the texts.
 use Rattle.std.proofs.Common.{◌≡◌, ℕ, List, Option, None, Result, Ok, Err, IfErr, IsErrAnd, sym, ◌∙◌, subst}
-use Rattle.app_model.specs.declared.app.App.{App}
+use Rattle.application.specs.declared.app.App.{App}
 use Rattle.c_lex.specs.CText.{IsCTokens}
 use Rattle.c_lex.specs.PlainTokens.{PlainTokens}
 use Rattle.c_parse.specs.Parsed as parsed
-use Rattle.c_parse.specs.declared.unit.Unit as units
-use Rattle.c_types.specs.Typed.{typed}
-use Rattle.c_types.specs.Views.{unit_of}
-use Rattle.oil_text.specs.declared.tree.OilTree.{OilTree}
-use Rattle.report.specs.declared.reports.Refusal.{Refusal}
-use Rattle.report.specs.declared.reports.Refusal.TheVariants as why
+use Rattle.c_unit.specs.declared.unit.Unit as units
+use Rattle.typed_unit.specs.Typed.{typed}
+use Rattle.typed_unit.specs.Views.{unit_of}
+use Rattle.oil_tree.specs.declared.tree.OilTree.{OilTree}
+use Rattle.answers.specs.declared.refusal.Refusal.{Refusal}
+use Rattle.answers.specs.declared.refusal.Refusal.TheVariants as why
 use Rattle.step_ir.specs.declared.code.Code.{Code}
 use Rattle.text_stages.specs.declared.read.Texts.{Texts}
 use Rattle.text_stages.specs.declared.stop.Stop.{Stop}

@@ -1,9 +1,9 @@
 -- What texts that were read are lowered to is what the texts mean.
 use Rattle.std.proofs.Common.{◌≡◌, ℕ, List, Option, None, Result, Ok, Err, IfOk, IfErr, sym, ◌∙◌, subst}
-use Rattle.c_types.specs.Typed.{typed}
-use Rattle.c_types.specs.Views.{unit_of}
+use Rattle.typed_unit.specs.Typed.{typed}
+use Rattle.typed_unit.specs.Views.{unit_of}
 use Rattle.lower.specs.LoweredCode.{IsLowered}
-use Rattle.report.specs.declared.reports.Refusal.{Refusal}
+use Rattle.answers.specs.declared.refusal.Refusal.{Refusal}
 use Rattle.text_stages.specs.declared.prepare.Prepared.{Prepared}
 use Rattle.text_stages.specs.declared.read.Texts.{Texts}
 use Rattle.text_stages.specs.declared.stop.Stop.{Stop}

@@ -2,8 +2,8 @@
 use Rattle.std.specs.Prelude.{◌≡◌, ℕ, ◌*◌, ◌<◌, ◌≤◌, Option, Some}
 use Rattle.chk_base.specs.declared.place.Place.{Place}
 use Rattle.lower_law.specs.Counts.{saturated}
-use Rattle.report.specs.declared.reports.Refusal.{Refusal}
-use Rattle.report.specs.declared.reports.Refusal.TheVariants as why
+use Rattle.answers.specs.declared.refusal.Refusal.{Refusal}
+use Rattle.answers.specs.declared.refusal.Refusal.TheVariants as why
 use Rattle.step_ir.specs.declared.code.Code.{Code}
 
 -- the place at which an input is first taken, where one is

@@ -3,26 +3,26 @@ use Rattle.std.specs.Prelude.{◌≡◌, ℕ, Bool, true, false, ◌&&◌, if◌
 use Rattle.app_model.specs.Answers as app_answers
 use Rattle.app_model.specs.Application.{application}
 use Rattle.app_model.specs.declared.build.AppFault.TheVariants.{Rule}
-use Rattle.app_model.specs.declared.app.App.{App}
+use Rattle.application.specs.declared.app.App.{App}
 use Rattle.c_lex.specs.CText.{IsCTokens, IsFirstFault}
 use Rattle.c_lex.specs.PlainTokens.{PlainTokens}
 use Rattle.c_lex.specs.declared.fault.LexFault.TheVariants as c_fault
 use Rattle.c_lex.specs.declared.token.Token.{Token}
 use Rattle.c_lex.specs.declared.token.TokenKind.{TokenKind}
 use Rattle.c_lex.specs.declared.token.TokenKind.TheVariants as kinds
-use Rattle.c_parse.specs.declared.unit.Unit as units
+use Rattle.c_unit.specs.declared.unit.Unit as units
 use Rattle.c_parse.specs.Parsed as parsed
 use Rattle.c_rules.specs.Meanings.{is_input_name}
-use Rattle.c_types.specs.Typed.{typed}
-use Rattle.c_types.specs.Views.{unit_of}
+use Rattle.typed_unit.specs.Typed.{typed}
+use Rattle.typed_unit.specs.Views.{unit_of}
 use Rattle.chk_base.specs.declared.place.Place.{Place}
 use Rattle.lower.specs.LoweredCode.{IsLowered}
 use Rattle.oil_rules.specs.Rules.{faults}
 use Rattle.oil_text.specs.OilText.{IsOilText, IsRefusedFor}
 use Rattle.oil_text.specs.declared.fault.OilFault.TheVariants as oil_fault
-use Rattle.oil_text.specs.declared.tree.OilTree.{OilTree}
-use Rattle.report.specs.declared.reports.Refusal.{Refusal}
-use Rattle.report.specs.declared.reports.Refusal.TheVariants as why
+use Rattle.oil_tree.specs.declared.tree.OilTree.{OilTree}
+use Rattle.answers.specs.declared.refusal.Refusal.{Refusal}
+use Rattle.answers.specs.declared.refusal.Refusal.TheVariants as why
 use Rattle.step_ir.specs.declared.code.Code.{Code}
 use Rattle.text_stages.specs.Limits.{IsLimitRefusal, IsWithinLimits}
 use Rattle.text_stages.specs.Stages.{StopsBy, BreaksRule, IsCountRefusal, IsGrammarRefusal, KeepsRules}

@@ -1,25 +1,25 @@
 -- How each stage from two texts to a code stops.
 use Rattle.std.specs.Prelude.{◌≡◌, ℕ, List, [], Option}
 use Rattle.app_model.specs.Answers as app_answers
-use Rattle.app_model.specs.declared.app.App.{App}
+use Rattle.application.specs.declared.app.App.{App}
 use Rattle.app_model.specs.declared.build.AppFault.TheVariants.{Rule}
 use Rattle.c_lex.specs.CText.{IsFirstFault}
 use Rattle.c_lex.specs.PlainTokens.{PlainTokens}
 use Rattle.c_lex.specs.declared.fault.LexFault.TheVariants as c_fault
 use Rattle.c_parse.specs.declared.fault.ParseFault.TheVariants as parse_fault
-use Rattle.c_parse.specs.declared.unit.Unit as units
+use Rattle.c_unit.specs.declared.unit.Unit as units
 use Rattle.c_parse.specs.Parsed as parsed
 use Rattle.c_rules.specs.First.{IsFirst}
 use Rattle.c_rules.specs.UnitRules as c_rules
-use Rattle.c_types.specs.Plain.{PlainUnit}
-use Rattle.c_types.specs.Typed.{typed}
+use Rattle.typed_unit.specs.Plain.{PlainUnit}
+use Rattle.typed_unit.specs.Typed.{typed}
 use Rattle.lower.specs.LoweredCode as lowering
 use Rattle.lower.specs.declared.lower.LowerFault.TheVariants as lower_fault
 use Rattle.oil_text.specs.OilText.{IsRefusedFor}
 use Rattle.oil_text.specs.declared.fault.OilFault.TheVariants as oil_fault
-use Rattle.oil_text.specs.declared.tree.OilTree.{OilTree}
-use Rattle.report.specs.declared.reports.Refusal.{Refusal}
-use Rattle.report.specs.declared.reports.Refusal.TheVariants as why
+use Rattle.oil_tree.specs.declared.tree.OilTree.{OilTree}
+use Rattle.answers.specs.declared.refusal.Refusal.{Refusal}
+use Rattle.answers.specs.declared.refusal.Refusal.TheVariants as why
 use Rattle.static_rules.specs.Rules as static_rules
 use Rattle.text_stages.specs.declared.stop.Stop.{Stop}
 use Rattle.text_stages.specs.declared.stop.Stop.TheVariants.{Refused, Memory}

@@ -3,7 +3,7 @@ ghost use Rattle.std.specs.Prelude.{◌≡◌, None, IfErr, OnOk};
 ghost use Rattle.text_stages.specs.Limits.{IsFormRefusal, IsLimitRefusal, IsWithinLimits};
 
 use crate::read::Texts;
-use report::reports::Refusal;
+use answers::refusal::Refusal;
 use step_ir::code::Code;
 
 /// The most that turns times the weight of one step may be.

@@ -1,8 +1,8 @@
 // From two texts to the application and its code.
 ghost use Rattle.std.specs.Prelude.{◌≡◌, ◌≤◌, length, IfOk, IfErr};
 ghost use Rattle.std.specs.Option.{option_copied};
-ghost use Rattle.app_model.specs.InOrder.{IsInOrder};
-ghost use Rattle.c_types.specs.Views.{unit_of};
+ghost use Rattle.application.specs.InOrder.{IsInOrder};
+ghost use Rattle.typed_unit.specs.Views.{unit_of};
 ghost use Rattle.lower.specs.LoweredCode.{IsLowered};
 ghost use Rattle.static_rules.specs.Checked as checked;
 ghost use Rattle.step_ir.specs.Fits.{Fits};
@@ -12,10 +12,10 @@ ghost use Rattle.text_stages.specs.Stages.{StopsBy, IsCountRefusal};
 use crate::limits::{check_form, check_limits};
 use crate::read::{Texts, read_texts};
 use crate::stop::Stop;
-use app_model::app::App;
+use answers::refusal::Refusal;
+use application::app::App;
 use chk_base::text::Text;
 use lower::lower::{LowerFault, lower};
-use report::reports::Refusal;
 use std::alloc::Global;
 use step_ir::code::Code;
 

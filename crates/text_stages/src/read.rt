@@ -1,13 +1,13 @@
 // From two texts to an application and a checked unit of C.
 ghost use Rattle.std.specs.Prelude.{◌≤◌, length, IfOk, IfErr};
 ghost use Rattle.std.specs.Option.{option_copied};
-ghost use Rattle.app_model.specs.InOrder.{IsInOrder};
+ghost use Rattle.application.specs.InOrder.{IsInOrder};
 ghost use Rattle.static_rules.specs.Checked.{Fits};
 ghost use Rattle.text_stages.specs.Prepared.{IsRead, IsReadStop};
 
 use crate::stages::{application_of, checked_of, first_input, tokens_of, tree_of, written_of};
 use crate::stop::Stop;
-use app_model::app::App;
+use application::app::App;
 use chk_base::place::Place;
 use chk_base::text::Text;
 use static_rules::check::Checked;

@@ -2,12 +2,12 @@
 ghost use Rattle.std.specs.Prelude.{◌≡◌, ◌≤◌, [], length, IfOk, IfErr, OnOk};
 ghost use Rattle.std.specs.Option.{option_copied};
 ghost use Rattle.app_model.specs.Application.{application};
-ghost use Rattle.app_model.specs.InOrder.{IsInOrder};
+ghost use Rattle.application.specs.InOrder.{IsInOrder};
 ghost use Rattle.c_lex.specs.CText.{IsCTokens};
 ghost use Rattle.c_parse.specs.Parsed as parsed;
 ghost use Rattle.c_rules.specs.UnitRules as c_rules;
-ghost use Rattle.c_types.specs.Typed.{typed};
-ghost use Rattle.c_types.specs.Views.{unit_of};
+ghost use Rattle.typed_unit.specs.Typed.{typed};
+ghost use Rattle.typed_unit.specs.Views.{unit_of};
 ghost use Rattle.oil_rules.specs.Rules.{faults};
 ghost use Rattle.oil_text.specs.OilText.{IsOilText};
 ghost use Rattle.static_rules.specs.Checked.{Fits};
@@ -15,26 +15,26 @@ ghost use Rattle.text_stages.specs.Prepared.{first_input, is_input};
 ghost use Rattle.text_stages.specs.Stages.{StopsBy, IsOilRefusal, IsRuleRefusal, IsTokenRefusal, IsGrammarRefusal, BreaksRule, KeepsRules};
 
 use crate::stop::Stop;
-use app_model::app::App;
+use answers::refusal::Refusal;
 use app_model::build::{AppFault, app_of};
+use application::app::App;
 use c_lex::fault::LexFault;
 use c_lex::lexing::lex;
 use c_lex::token::{Token, TokenKind};
 use c_lex::tokens::Tokens;
 use c_parse::fault::ParseFault;
 use c_parse::parse::parse;
-use c_parse::unit::Unit;
 use c_rules::objects::is_input_name;
-use c_types::typed::TypedUnit;
 use c_types::types::{TypeFault, type_unit};
+use c_unit::unit::Unit;
 use chk_base::place::Place;
 use chk_base::text::Text;
 use oil_text::fault::OilFault;
 use oil_text::reader::read_oil;
-use oil_text::tree::OilTree;
-use report::reports::Refusal;
+use oil_tree::tree::OilTree;
 use static_rules::check::{Checked, RuleFault, check_rules};
 use std::alloc::Global;
+use typed_unit::typed::TypedUnit;
 
 // The tree of the OIL text.
 pub(crate) fn tree_of(alloc: Global, oil: &Text) -> Result<OilTree, Stop>

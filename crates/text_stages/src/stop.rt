@@ -2,7 +2,7 @@
 ghost use Rattle.std.specs.Prelude.{◌≡◌};
 ghost use Rattle.text_stages.specs.declared.stop.Stop.TheVariants as stop;
 
-use report::reports::Refusal;
+pub use answers::refusal::Refusal;
 use std::alloc::AllocError;
 
 /// Why there is no application or no code: the texts are refused, or memory ran out.

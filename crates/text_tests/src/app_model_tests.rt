@@ -1,9 +1,9 @@
 // Worked cases, over the texts that are read.
-use app_model::app::{App, Class};
 use app_model::build::{AppFault, app_of};
+use application::app::{App, Class};
 use chk_base::text::Text;
 use oil_text::reader::read_oil;
-use oil_text::tree::OilTree;
+use oil_tree::tree::OilTree;
 use std::alloc::Global;
 use std::process::Abort;
 use std::test::Fail;

@@ -1,10 +1,10 @@
 // What no clause shows: that texts are read, and that the definitions say what is meant, over texts of C.
-use c_expression::expression::{Expression, RightSide, TypeName};
 use c_lex::lexing::lex;
 use c_parse::fault::ParseFault;
 use c_parse::parse::parse;
-use c_parse::statement::{Simple, Statement};
-use c_parse::unit::{External, Unit, Variable};
+use c_unit::expression::{Expression, RightSide, TypeName};
+use c_unit::statement::{Simple, Statement};
+use c_unit::unit::{External, Unit, Variable};
 use chk_base::place::Place;
 use chk_base::text::{Name, Text};
 use std::alloc::{AllocError, Global};

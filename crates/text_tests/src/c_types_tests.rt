@@ -1,15 +1,15 @@
 // Worked cases, over the texts that are read.
-use app_model::app::App;
 use app_model::build::app_of;
+use application::app::App;
 use c_lex::lexing::lex;
 use c_parse::parse::parse;
-use c_parse::unit::Unit;
-use c_types::typed::TypedUnit;
 use c_types::types::{TypeFault, type_unit};
+use c_unit::unit::Unit;
 use chk_base::text::Text;
 use oil_text::reader::read_oil;
 use std::alloc::Global;
 use std::test::Fail;
+use typed_unit::typed::TypedUnit;
 
 // The application with a task T, a routine I and a resource R.
 const OIL: &[u8] =

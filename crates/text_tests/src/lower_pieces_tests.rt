@@ -5,8 +5,7 @@ ghost use Rattle.lower_law.specs.Typed as plain;
 ghost use Rattle.lower_pieces.specs.Acting.{context_of};
 ghost use Rattle.lower_pieces.specs.Trees.{tree_of, statement_of};
 
-use c_expression::expression::BinaryOperator;
-use c_types::typed::CType;
+use c_unit::expression::BinaryOperator;
 use chk_base::place::Place;
 use chk_base::word::Width;
 use lower_pieces::actions::Frame;
@@ -17,6 +16,7 @@ use lower_pieces::tree::{ExpressionTree, StatementTree};
 use std::alloc::{AllocError, Global};
 use std::test::Fail;
 use step_ir::code::{Action, Nexts};
+use typed_unit::typed::CType;
 
 const PLACE: Place = Place {
     line: 1,

@@ -3,7 +3,7 @@ use chk_base::place::Place;
 use chk_base::text::{Name, Text};
 use oil_text::fault::OilFault;
 use oil_text::reader::read_oil;
-use oil_text::tree::{Attribute, Attributes, Item, Items, OilTree, Places, Value, ValueForm};
+use oil_tree::tree::{Attribute, Attributes, Item, Items, OilTree, Places, Value, ValueForm};
 use std::alloc::{AllocError, Global};
 use std::test::Fail;
 

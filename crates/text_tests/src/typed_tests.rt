@@ -1,15 +1,15 @@
 // Worked typed units, in words.
 use crate::c_types_tests::{app, app_in, typed};
-use app_model::app::App;
-use c_types::typed::{
-    CType, GlobalVar, Locals, Taker, TypedBranch, TypedEntity, TypedExpr, TypedFunction,
-    TypedStatement, TypedUnit,
-};
+use application::app::App;
 use chk_base::place::Place;
 use chk_base::text::Name;
 use chk_base::word::Width;
 use std::alloc::{AllocError, Global};
 use std::test::Fail;
+use typed_unit::typed::{
+    CType, GlobalVar, Locals, Taker, TypedBranch, TypedEntity, TypedExpr, TypedFunction,
+    TypedStatement, TypedUnit,
+};
 
 fn type_text(t: CType) -> &'static str {
     match (t.width, t.signed) {

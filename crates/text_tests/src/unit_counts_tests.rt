@@ -1,12 +1,8 @@
 // Counts and cells of units that are written by hand.
-use app_model::app::Entity;
-use c_expression::expression::BinaryOperator;
-use c_parse::unit::EntityKind;
+use application::app::Entity;
 use c_types::convert::{int32, uint32};
-use c_types::typed::{
-    CType, GlobalVar, Globals, Local, Locals, TypedBlock, TypedEntities, TypedEntity, TypedExpr,
-    TypedFunction, TypedFunctions, TypedStatement, TypedUnit,
-};
+use c_unit::expression::BinaryOperator;
+use c_unit::unit::EntityKind;
 use chk_base::place::Place;
 use chk_base::sets::Values;
 use chk_base::text::{Name, Text};
@@ -16,6 +12,10 @@ use std::alloc::{AllocError, Global};
 use std::test::Fail;
 use step_ir::code::CellNames;
 use step_ir::event::Service;
+use typed_unit::typed::{
+    CType, GlobalVar, Globals, Local, Locals, TypedBlock, TypedEntities, TypedEntity, TypedExpr,
+    TypedFunction, TypedFunctions, TypedStatement, TypedUnit,
+};
 use unit_counts::cells::cells_of;
 use unit_counts::counts::counts_of;
 

@@ -9,7 +9,8 @@ use Rattle.bit_circuit.specs.Extension.{PlainFormula, IsModel}
 use Rattle.guard_prog.specs.GuardedRun.{Program, State, run, start_of, IsRun, IsRunTo}
 use Rattle.turn_law.specs.Padded.{Phase, step, ended, path, path_on, beginning, trimmed}
 use Rattle.turn_law.specs.Symbol.{Symbol, Row, row_true, first_true, trues, chosen, choices, AreRowsOf, Takes, Follows, OneReads, Reached, Unrolls}
-use Rattle.turn_law.specs.Description.{PlainEncoding, row_of, turns_read, read, HasOneModel, AreRowsWithin, Describes}
+use Rattle.turn_law.specs.Description.{row_of, turns_read, read, HasOneModel, AreRowsWithin, Describes}
+use Rattle.turn_encoding.specs.Encodings.{PlainEncoding}
 use Rattle.turn_law.specs.Unrolled.{AreLabelled, labels_of, words_of, depths_of, failures_of, failed_in, encoded, IsGoal, IsStart}
 use Rattle.turn_law.proofs.Failing.{fails_at, goal_fails, goal_inside, goal_some, length-failures}
 use Rattle.turn_law.proofs.Induction.{follows_path, length-choices}

@@ -1,21 +1,14 @@
 -- Descriptions: what the formula of a guarded program says.
-use Rattle.std.specs.Prelude.{◌≡◌, ℕ, suc, ◌<◌, ◌≤◌, Bool, ◌&&◌, ◌==◌, nat_lt, List, [], ◌∷◌, length, take, get_or}
+use Rattle.std.specs.Prelude.{◌≡◌, ℕ, suc, ◌<◌, ◌≤◌, ◌&&◌, ◌==◌, nat_lt, List, [], ◌∷◌, length, take, get_or}
 use Rattle.clause_form.specs.declared.lit.Lit.{Lit}
 use Rattle.clause_form.specs.ClauseTruth.{Values, Agree, is_clause_true}
 use Rattle.clause_form.specs.Literals.{AreOf, IsClause, has}
 use Rattle.bit_circuit.specs.BusValue.{number}
-use Rattle.bit_circuit.specs.Extension.{PlainFormula, IsModel}
+use Rattle.bit_circuit.specs.Extension.{IsModel}
 use Rattle.guard_prog.specs.GuardedRun.{Program, State, IsRun, IsRunTo}
 use Rattle.turn_law.specs.Padded.{trimmed}
 use Rattle.turn_law.specs.Symbol.{first_true, trues, row_true}
-
--- a formula without the goal, the goal clause, and the literals of the depth after each number of turns, of each turn's labels and of its word
-pub record PlainEncoding : Type 0 where
-  pub formula : PlainFormula
-  pub goal : List Lit
-  pub depths : List (List Lit)
-  pub alternatives : List (List Lit)
-  pub inputs : List (List Lit)
+pub use Rattle.turn_encoding.specs.Encodings.{PlainEncoding}
 
 -- a row of a grid, and nothing outside it
 abbrev pub row_of : List (List Lit) → ℕ → List Lit

@@ -10,7 +10,8 @@ use Rattle.guard_prog.specs.Drafts.{plain_alternatives, program_of}
 use Rattle.guard_prog.specs.GuardedRun.{PlainAlternative, Program, alternative_with, start_of}
 use Rattle.guard_prog.specs.WellShaped.{IsWellShaped}
 use Rattle.turn_law.specs.Building.{BuildsTurn, units}
-use Rattle.turn_law.specs.Description.{PlainEncoding, Describes}
+use Rattle.turn_law.specs.Description.{Describes}
+use Rattle.turn_encoding.specs.Encodings.{PlainEncoding}
 use Rattle.turn_law.specs.Padded.{beginning}
 use Rattle.turn_law.specs.Sight.{Offer, IsOffered, Means}
 use Rattle.turn_law.specs.Symbol.{Symbol, Row, row_true, sight, MakesTurn, Unrolls}

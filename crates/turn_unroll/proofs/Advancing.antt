@@ -10,7 +10,8 @@ use Rattle.guard_prog.specs.GuardedRun.{Program}
 use Rattle.guard_prog.specs.WellShaped.{IsWellShaped}
 use Rattle.bit_circuit.specs.Extension.{IsModel, PlainFormula, formula}
 use Rattle.turn_law.specs.Building.{free_of, is_no}
-use Rattle.turn_law.specs.Description.{Describes, PlainEncoding}
+use Rattle.turn_law.specs.Description.{Describes}
+use Rattle.turn_encoding.specs.Encodings.{PlainEncoding, HasShape}
 use Rattle.turn_law.specs.Padded.{beginning}
 use Rattle.turn_law.specs.Symbol.{AreRowsOf, MakesTurn, Row, Unrolls, sight}
 use Rattle.turn_law.specs.Unrolled.{IsStart, depths_of, encoded, failures_of, labels_of, words_of}
@@ -22,10 +23,10 @@ use Rattle.turn_unroll.specs.declared.turn.State.{State}
 use Rattle.turn_unroll.specs.declared.turn.Turned.{Turned}
 use Rattle.turn_unroll.specs.declared.unroll.Unrolled.{Unrolled}
 use Rattle.turn_unroll.specs.Goals.{failure_with, goal_of, last_with}
-use Rattle.turn_unroll.specs.Grids.{AreWide, HasColumns, HasFewer}
+use Rattle.turn_encoding.specs.Grids.{AreWide, HasColumns, HasFewer}
 use Rattle.turn_unroll.specs.Starts.{IsStartOf}
 use Rattle.turn_unroll.specs.Turns.{IsState, TurnsBy, row_of_turn, symbol_of}
-use Rattle.turn_unroll.specs.Unrolls.{HasShape, IsUnrolled}
+use Rattle.turn_unroll.specs.Unrolls.{IsUnrolled}
 use Rattle.turn_unroll.proofs.Failing.{Grown, failures_more, is_goal, makes_failure, with_failure}
 
 -- ---- failures and grids

@@ -1,8 +1,6 @@
 pub mod Cells
 pub mod Demands
-pub mod Encodings
 pub mod Goals
-pub mod Grids
 pub mod Labels
 pub mod Offers
 pub mod Places
@@ -14,3 +12,5 @@ pub mod Turns
 pub mod Unrolls
 pub mod Ways
 pub mod Words
+pub use Rattle.turn_encoding.specs.Grids
+pub use Rattle.turn_encoding.specs.Encodings

@@ -5,11 +5,10 @@ use Rattle.clause_form.specs.Literals.{last_variable, rises_above}
 use Rattle.guard_prog.specs.declared.draft.Draft.{Draft}
 use Rattle.guard_prog.specs.Drafts.{program_of}
 use Rattle.turn_law.specs.Building.{free_of}
-use Rattle.turn_law.specs.Description.{PlainEncoding}
 use Rattle.turn_law.specs.Symbol.{Row, Unrolls}
 use Rattle.turn_law.specs.Unrolled.{IsStart, depths_of, failures_of, labels_of, words_of}
 use Rattle.turn_unroll.specs.declared.unroll.Unrolled.{Unrolled}
-use Rattle.turn_unroll.specs.Grids.{AreWide}
+use Rattle.turn_encoding.specs.Grids.{AreWide}
 use Rattle.turn_unroll.specs.Turns.{IsState, symbol_of}
 
 -- the formula, the state and the grids after so many turns; a failure literal is the one that is false, or its variable is above those before
@@ -29,12 +28,3 @@ pub record IsUnrolled (d : Draft) (count turns : ℕ) (u : Unrolled) : Type 0 wh
   pub depths_wide : AreWide (d.depth + 1) u.depths
   pub alternatives_wide : AreWide (count + 1) u.alternatives
   pub inputs_wide : AreWide 32 u.inputs
-
--- the grids have a row for each number of turns or for each turn, with a literal for each depth, each label and each bit of a word
-pub record HasShape (e : PlainEncoding) (depth greatest turns : ℕ) : Type 0 where
-  pub depths : length e.depths ≡ turns + 1
-  pub depths_wide : AreWide (depth + 1) e.depths
-  pub alternatives : length e.alternatives ≡ turns
-  pub alternatives_wide : AreWide (greatest + 1) e.alternatives
-  pub inputs : length e.inputs ≡ turns
-  pub inputs_wide : AreWide 32 e.inputs

@@ -5,7 +5,7 @@ ghost use Rattle.clause_form.specs.ClauseTruth.{is_lit_true, values_of};
 ghost use Rattle.bit_circuit.specs.BusValue.{bit, number};
 ghost use Rattle.turn_law.specs.Description.{read, turns_read};
 ghost use Rattle.turn_law.specs.Symbol.{first_true};
-ghost use Rattle.turn_unroll.specs.Encodings.{encoding_of};
+ghost use Rattle.turn_encoding.specs.Encodings.{encoding_of};
 ghost use Rattle.turn_unroll.specs.Runs.{AreWhole, IsWhole, pair_at, pairs_of};
 
 use crate::encoding::Encoding;

@@ -4,10 +4,10 @@ ghost use Rattle.guard_prog.specs.Drafts.{program_of};
 ghost use Rattle.guard_prog.specs.WellShaped.{IsWellShaped};
 ghost use Rattle.turn_law.specs.Description.{Describes};
 ghost use Rattle.turn_law.specs.Unrolled.{offers_from};
-ghost use Rattle.turn_unroll.specs.Encodings.{encoding_of};
-ghost use Rattle.turn_unroll.specs.Grids.{HasColumns, HasFewer};
+ghost use Rattle.turn_encoding.specs.Encodings.{encoding_of, HasShape};
+ghost use Rattle.turn_encoding.specs.Grids.{HasColumns, HasFewer};
 ghost use Rattle.turn_unroll.specs.Offers.{greatest_of};
-ghost use Rattle.turn_unroll.specs.Unrolls.{HasShape, IsUnrolled};
+ghost use Rattle.turn_unroll.specs.Unrolls.{IsUnrolled};
 ghost use Rattle.turn_unroll.specs.Ways.{offers_of};
 
 use crate::encoding::Encoding;

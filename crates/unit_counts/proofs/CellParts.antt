@@ -5,12 +5,12 @@ use Rattle.chk_base.specs.declared.word.Width.TheVariants.{W1, W8, W16, W32}
 use Rattle.chk_base.specs.Widths.{bits_of}
 use Rattle.step_ir.specs.declared.code.CellName.{CellName}
 use Rattle.step_ir.specs.Fits.{bit_count}
-use Rattle.c_types.specs.declared.typed.GlobalVar.{GlobalVar}
-use Rattle.c_types.specs.declared.typed.Local.{Local}
-use Rattle.c_types.specs.declared.typed.TypedEntity.{TypedEntity}
-use Rattle.c_types.specs.declared.typed.TypedUnit.{TypedUnit}
-use Rattle.c_types.specs.Plain.{PlainEntity, PlainUnit}
-use Rattle.c_types.specs.Views.{block_of, entity_of, unit_of}
+use Rattle.typed_unit.specs.declared.typed.GlobalVar.{GlobalVar}
+use Rattle.typed_unit.specs.declared.typed.Local.{Local}
+use Rattle.typed_unit.specs.declared.typed.TypedEntity.{TypedEntity}
+use Rattle.typed_unit.specs.declared.typed.TypedUnit.{TypedUnit}
+use Rattle.typed_unit.specs.Plain.{PlainEntity, PlainUnit}
+use Rattle.typed_unit.specs.Views.{block_of, entity_of, unit_of}
 use Rattle.lower_law.specs.Counts.{call_depth, saturated, things_in, function_points, function_weight, function_bits, function_reads, entity_reads, local_bits, bit_total}
 use Rattle.lower_law.specs.Layout.{element_names, variable_names, global_names, local_names, call_names, value_names, function_names, body_names, entity_names, cells_before, names_before, if_some, layout}
 use Rattle.lower_law.specs.Statements.{CellFunction, no_body, room_all, rooms_to}

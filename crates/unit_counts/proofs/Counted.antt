@@ -1,10 +1,10 @@
 -- The tables hold what is counted, as far as numbers go.
 use Rattle.std.proofs.Common.{◌≡◌, ℕ, zero, suc, ◌+◌, ◌≤◌, max, List, [], ◌∷◌, map, Option, Some, None, option_map, slice_get, refl, sym, ap, ◌∙◌, arith}
 use Rattle.std.proofs.lemmas.Option.{slice_get-map}
-use Rattle.c_types.specs.declared.typed.TypedFunction.{TypedFunction}
-use Rattle.c_types.specs.declared.typed.CType.{CType}
-use Rattle.c_types.specs.Plain.{PlainUnit}
-use Rattle.c_types.specs.Views.{block_of, function_of}
+use Rattle.typed_unit.specs.declared.typed.TypedFunction.{TypedFunction}
+use Rattle.typed_unit.specs.declared.typed.CType.{CType}
+use Rattle.typed_unit.specs.Plain.{PlainUnit}
+use Rattle.typed_unit.specs.Views.{block_of, function_of}
 use Rattle.lower_law.specs.Counts.{Thing, saturated, reads_all, weight_all, things_in, called, points_of, weight_of, call_bits, most_reads, end_points, local_bits, if_function, function_points, function_weight, function_bits, function_reads}
 use Rattle.unit_counts.specs.declared.tally.Tally.{Tally}
 use Rattle.unit_counts.specs.Sizes.{size_of, sizes_of}

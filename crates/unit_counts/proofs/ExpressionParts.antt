@@ -1,8 +1,8 @@
 -- The counts of expressions, part by part.
 use Rattle.std.proofs.Common.{◌≡◌, ℕ, ◌+◌, ◌<◌, List, length, get_or, drop, map, ap, ◌∙◌}
 use Rattle.std.proofs.lemmas.List.{drop_more}
-use Rattle.c_types.specs.declared.typed.TypedExpr.{TypedExpr}
-use Rattle.c_types.specs.Views.{expr_of}
+use Rattle.typed_unit.specs.declared.typed.TypedExpr.{TypedExpr}
+use Rattle.typed_unit.specs.Views.{expr_of}
 use Rattle.lower_law.specs.Counts.{saturated, reads, reads_all, expr_weight, weight_all}
 use Rattle.unit_counts.proofs.Saturation.{sum_more}
 

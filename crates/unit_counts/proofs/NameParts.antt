@@ -4,11 +4,11 @@ use Rattle.std.proofs.lemmas.List.{append-nil, drop_more}
 use Rattle.std.proofs.lemmas.Option.{slice_get-map}
 use Rattle.chk_base.specs.declared.word.Width.TheVariants.{W32}
 use Rattle.step_ir.specs.declared.code.CellName.{CellName}
-use Rattle.c_types.specs.declared.typed.GlobalVar.{GlobalVar}
-use Rattle.c_types.specs.declared.typed.Local.{Local}
-use Rattle.c_types.specs.declared.typed.TypedFunction.{TypedFunction}
-use Rattle.c_types.specs.declared.typed.TypedUnit.{TypedUnit}
-use Rattle.c_types.specs.Views.{block_of, function_of, unit_of}
+use Rattle.typed_unit.specs.declared.typed.GlobalVar.{GlobalVar}
+use Rattle.typed_unit.specs.declared.typed.Local.{Local}
+use Rattle.typed_unit.specs.declared.typed.TypedFunction.{TypedFunction}
+use Rattle.typed_unit.specs.declared.typed.TypedUnit.{TypedUnit}
+use Rattle.typed_unit.specs.Views.{block_of, function_of, unit_of}
 use Rattle.lower_law.specs.Counts.{Thing, things_in}
 use Rattle.lower_law.specs.Layout.{or_none, element_names, variable_names, global_names, local_names, called_names, call_names, value_names, if_some, function_names}
 use Rattle.unit_counts.specs.declared.tally.BodySize.{BodySize}

@@ -2,7 +2,7 @@
 use Rattle.std.proofs.Common.{◌≡◌, ℕ, ◌+◌, ◌<◌, List, length, get_or, drop, ap, ◌∙◌}
 use Rattle.std.proofs.lemmas.List.{drop_more}
 use Rattle.chk_base.specs.Widths.{bits_of}
-use Rattle.c_types.specs.declared.typed.Local.{Local}
+use Rattle.typed_unit.specs.declared.typed.Local.{Local}
 use Rattle.lower_law.specs.Counts.{saturated, local_bits, sum_of}
 use Rattle.unit_counts.specs.declared.things.ThingSize.{ThingSize}
 use Rattle.unit_counts.specs.declared.tally.Tally.{Tally}

@@ -2,14 +2,14 @@
 use Rattle.std.proofs.Common.{◌≡◌, ℕ, ◌+◌, ◌<◌, List, [], ◌∷◌, ◌++◌, Option, Some, None, option_map, length, get_or, drop, map, refl, sym, ap, ◌∙◌, append_assoc}
 use Rattle.std.proofs.lemmas.List.{append-nil, drop_more, map-append}
 use Rattle.chk_base.specs.declared.place.Place.{Place}
-use Rattle.c_types.specs.declared.typed.TypedBranch.{TypedBranch, out-TypedBranch, fold_out-TypedBranch}
-use Rattle.c_types.specs.declared.typed.TypedExpr.{TypedExpr}
-use Rattle.c_types.specs.declared.typed.TypedStatement.{TypedStatement, fold-roll-TypedStatement}
-use Rattle.c_types.specs.declared.typed.TypedStatement.TheOpen.{TypedStatement-F}
-use Rattle.c_types.specs.declared.typed.TypedStatement.TheVariants as s
-use Rattle.c_types.specs.declared.typed.TypedStatement.TheVariants.{rolls-If, rolls-While, rolls-For}
-use Rattle.c_types.specs.Plain.{PlainStatement, PlainBlock, NoStatement}
-use Rattle.c_types.specs.Views.{PlainBranch, chained, branched, expr_of, statement_layer, branch_layer, statement_of, branch_of, block_of}
+use Rattle.typed_unit.specs.declared.typed.TypedBranch.{TypedBranch, out-TypedBranch, fold_out-TypedBranch}
+use Rattle.typed_unit.specs.declared.typed.TypedExpr.{TypedExpr}
+use Rattle.typed_unit.specs.declared.typed.TypedStatement.{TypedStatement, fold-roll-TypedStatement}
+use Rattle.typed_unit.specs.declared.typed.TypedStatement.TheOpen.{TypedStatement-F}
+use Rattle.typed_unit.specs.declared.typed.TypedStatement.TheVariants as s
+use Rattle.typed_unit.specs.declared.typed.TypedStatement.TheVariants.{rolls-If, rolls-While, rolls-For}
+use Rattle.typed_unit.specs.Plain.{PlainStatement, PlainBlock, NoStatement}
+use Rattle.typed_unit.specs.Views.{PlainBranch, chained, branched, expr_of, statement_layer, branch_layer, statement_of, branch_of, block_of}
 use Rattle.lower_law.specs.Counts.{Thing, asking, if_there, things, things_in}
 use Rattle.unit_counts.specs.declared.things.ThingSize.{ThingSize}
 use Rattle.unit_counts.specs.Sizes.{size_of, sizes_of, branch_things, statement_sizes, block_sizes, branches_sizes}

@@ -2,12 +2,12 @@
 use Rattle.std.proofs.Common.{◌≡◌, ℕ, zero, suc, ◌+◌, ◌*◌, ◌<◌, List, [], ◌∷◌, ◌++◌, Some, None, if◌then◌else◌, length, get_or, drop, map, refl, ap, ◌∙◌, arith}
 use Rattle.std.proofs.lemmas.List.{drop_more}
 use Rattle.chk_base.specs.Widths.{bits_of}
-use Rattle.c_types.specs.declared.typed.GlobalVar.{GlobalVar}
-use Rattle.c_types.specs.declared.typed.TypedEntity.{TypedEntity}
-use Rattle.c_types.specs.declared.typed.TypedFunction.{TypedFunction}
-use Rattle.c_types.specs.declared.typed.TypedUnit.{TypedUnit}
-use Rattle.c_types.specs.Plain.{PlainUnit}
-use Rattle.c_types.specs.Views.{block_of, function_of, entity_of, unit_of}
+use Rattle.typed_unit.specs.declared.typed.GlobalVar.{GlobalVar}
+use Rattle.typed_unit.specs.declared.typed.TypedEntity.{TypedEntity}
+use Rattle.typed_unit.specs.declared.typed.TypedFunction.{TypedFunction}
+use Rattle.typed_unit.specs.declared.typed.TypedUnit.{TypedUnit}
+use Rattle.typed_unit.specs.Plain.{PlainUnit}
+use Rattle.typed_unit.specs.Views.{block_of, function_of, entity_of, unit_of}
 use Rattle.lower_law.specs.Counts.{saturated, call_depth, things_in, points_of, weight_of, call_bits, most_reads, local_bits, function_points, function_weight, function_bits, function_reads, entity_points, entity_weight, entity_bits, entity_reads, sum_of, global_bits, if_body, sum_below, point_total, bit_total, weight_total}
 use Rattle.lower_law.specs.Translated.{elements, entity_body, is_entity}
 use Rattle.unit_counts.specs.declared.tally.Tally.{Tally}

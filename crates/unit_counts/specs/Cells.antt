@@ -1,10 +1,10 @@
 -- The cells of a unit: those of its variables, and those of each entity with their places.
 use Rattle.std.specs.Prelude.{ℕ, zero, suc, List, [], ◌∷◌, ◌++◌, Option, Some, None}
 use Rattle.step_ir.specs.declared.code.CellName.{CellName}
-use Rattle.c_types.specs.declared.typed.GlobalVar.{GlobalVar}
-use Rattle.c_types.specs.declared.typed.Local.{Local}
-use Rattle.c_types.specs.declared.typed.TypedFunction.{TypedFunction}
-use Rattle.c_types.specs.Plain.{PlainUnit}
+use Rattle.typed_unit.specs.declared.typed.GlobalVar.{GlobalVar}
+use Rattle.typed_unit.specs.declared.typed.Local.{Local}
+use Rattle.typed_unit.specs.declared.typed.TypedFunction.{TypedFunction}
+use Rattle.typed_unit.specs.Plain.{PlainUnit}
 use Rattle.lower_law.specs.Layout.{called_names, entity_names, layout}
 use Rattle.lower_law.specs.Translated.{global_cell}
 use Rattle.unit_counts.specs.declared.cells.EntityCells.{EntityCells}

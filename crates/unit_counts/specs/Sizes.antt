@@ -1,8 +1,8 @@
 -- What is counted for things, without the bodies of the functions that they call.
 use Rattle.std.specs.Prelude.{◌+◌, List, [], ◌∷◌, ◌++◌, map}
-use Rattle.c_types.specs.declared.typed.TypedBranch.{TypedBranch}
-use Rattle.c_types.specs.declared.typed.TypedStatement.{TypedStatement}
-use Rattle.c_types.specs.Views.{PlainBranch, statement_of, branch_of, block_of}
+use Rattle.typed_unit.specs.declared.typed.TypedBranch.{TypedBranch}
+use Rattle.typed_unit.specs.declared.typed.TypedStatement.{TypedStatement}
+use Rattle.typed_unit.specs.Views.{PlainBranch, statement_of, branch_of, block_of}
 use Rattle.lower_law.specs.Counts.{Thing, saturated, reads_all, weight_all, things, things_in, asking}
 use Rattle.unit_counts.specs.declared.things.ThingSize.{ThingSize}
 

@@ -1,8 +1,8 @@
 -- What is counted in bodies, as far as numbers go.
 use Rattle.std.specs.Prelude.{ℕ, zero, suc, ◌+◌, ◌*◌, max, List, [], ◌∷◌, ◌++◌, map, Option, Some, None, slice_get}
-use Rattle.c_types.specs.declared.typed.TypedEntity.{TypedEntity}
-use Rattle.c_types.specs.declared.typed.TypedFunction.{TypedFunction}
-use Rattle.c_types.specs.Plain.{PlainUnit}
+use Rattle.typed_unit.specs.declared.typed.TypedEntity.{TypedEntity}
+use Rattle.typed_unit.specs.declared.typed.TypedFunction.{TypedFunction}
+use Rattle.typed_unit.specs.Plain.{PlainUnit}
 use Rattle.lower_law.specs.Counts.{saturated, local_bits, end_points, if_body, entity_points, entity_weight, entity_bits, entity_reads}
 use Rattle.lower_law.specs.Translated.{entity_body}
 use Rattle.unit_counts.specs.declared.things.ThingSize.{ThingSize}

@@ -1,6 +1,6 @@
 // The cells of a unit, and where those of each variable and of each entity stand.
 ghost use Rattle.std.specs.Prelude.{◌≡◌, ◌≤◌, ◌+◌, ◌++◌, IfOk, length, map};
-ghost use Rattle.c_types.specs.Views.{entity_of, unit_of};
+ghost use Rattle.typed_unit.specs.Views.{entity_of, unit_of};
 ghost use Rattle.lower_law.specs.Counts.{bit_total, call_depth, entity_reads, things_in};
 ghost use Rattle.lower_law.specs.Layout.{body_names, call_names, cells_before, entity_names, function_names, global_names, layout, local_names};
 ghost use Rattle.lower_law.specs.Translated.{cell_count, entity_body};
@@ -10,10 +10,10 @@ ghost use Rattle.unit_counts.specs.Tallies.{function_size, tallies_to};
 use crate::counts::{body_of, elements};
 use crate::names::{global_names, push_calls, push_locals, push_values};
 use crate::tally::{BodySize, Tally, entity_size, function_sizes, tallies, tally_of};
-use c_types::typed::{GlobalVar, TypedEntity, TypedUnit};
 use sqlite_items::Items;
 use std::alloc::{AllocError, Global};
 use step_ir::code::CellNames;
+use typed_unit::typed::{GlobalVar, TypedEntity, TypedUnit};
 
 /// The cells of an entity: the first is the cell of its first local, or of what stands there where it has none, and those from `temp` on
 /// are for values read.

@@ -1,7 +1,7 @@
 // The counts of a typed unit.
 ghost use Rattle.std.specs.Prelude.{◌≡◌, IfOk, map, option_map};
 ghost use Rattle.std.specs.Option.{option_copied};
-ghost use Rattle.c_types.specs.Views.{entity_of, unit_of};
+ghost use Rattle.typed_unit.specs.Views.{entity_of, unit_of};
 ghost use Rattle.lower_law.specs.Counts.{saturated, call_depth, global_bits, sum_of, point_total, bit_total, weight_total};
 ghost use Rattle.lower_law.specs.Translated.{elements, entity_body, is_entity};
 ghost use Rattle.unit_counts.specs.Tallies.{function_size, entity_tally, entity_tallies, tallies_to};
@@ -10,10 +10,10 @@ use crate::expressions::plus;
 use crate::tally::{
     Tallies, Tally, completed, entity_size, function_sizes, nothing, tallies, tally_of,
 };
-use app_model::app::Entity;
-use c_types::typed::{GlobalVar, TypedEntity, TypedUnit};
+use application::app::Entity;
 use sqlite_items::Items;
 use std::alloc::{AllocError, Global};
+use typed_unit::typed::{GlobalVar, TypedEntity, TypedUnit};
 
 /// The counts of a typed unit, each as far as a number of 64 bits goes: the points, the bits of all cells and the weight of an application
 /// of so many entities, and what is counted for each entity.

@@ -1,10 +1,10 @@
 // The read sites and the weight of expressions.
 ghost use Rattle.std.specs.Prelude.{◌≡◌, ◌+◌, map};
-ghost use Rattle.c_types.specs.Views.{expr_of};
+ghost use Rattle.typed_unit.specs.Views.{expr_of};
 ghost use Rattle.lower_law.specs.Counts.{saturated, reads, reads_all, operator_weight, expr_weight, weight_all};
 
-use c_expression::expression::BinaryOperator;
-use c_types::typed::TypedExpr;
+use c_unit::expression::BinaryOperator;
+use typed_unit::typed::TypedExpr;
 
 // A sum, as far as a number goes.
 pub(crate) fn plus(a: u64, b: u64) -> u64

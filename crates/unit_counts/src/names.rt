@@ -1,17 +1,17 @@
 // The cells of a unit with their names.
 ghost use Rattle.std.specs.Prelude.{◌≡◌, ◌+◌, ◌++◌, [], ◌∷◌, OnOk, IfOk, None, map, slice_get};
-ghost use Rattle.c_types.specs.Views.{unit_of};
+ghost use Rattle.typed_unit.specs.Views.{unit_of};
 ghost use Rattle.lower_law.specs.Layout.{or_none, element_names, variable_names, global_names, local_names, called_names, value_names, function_names};
 ghost use Rattle.unit_counts.specs.Cells.{locals_or_none, things_or_none, names_in};
 ghost use Rattle.unit_counts.specs.Tallies.{function_size};
 
 use crate::tally::BodySize;
 use crate::things::ThingSize;
-use c_types::typed::{GlobalVar, Local, TypedUnit};
 use chk_base::text::Text;
 use chk_base::word::Width;
 use std::alloc::{AllocError, Global};
 use step_ir::code::{CellName, CellNames};
+use typed_unit::typed::{GlobalVar, Local, TypedUnit};
 
 // The value of a start list, and 0 behind its end.
 fn start_at(g: &GlobalVar, at: usize) -> u32

@@ -5,9 +5,9 @@ ghost use Rattle.unit_counts.specs.Tallies.{function_size, entity_size, called_t
 
 use crate::expressions::plus;
 use crate::things::{ThingSize, ThingSizes, things_of};
-use c_types::typed::{CType, Local, TypedEntity, TypedFunction};
 use sqlite_items::Items;
 use std::alloc::{AllocError, Global};
+use typed_unit::typed::{CType, Local, TypedEntity, TypedFunction};
 
 /// What is counted in a body with all its calls expanded, each as far as a number of 64 bits goes: its points, its weight, the bits of its
 /// cells, and the greatest number of read sites in one thing.

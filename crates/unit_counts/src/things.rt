@@ -1,13 +1,13 @@
 // The things that bodies do, each with what is counted for it.
 ghost use Rattle.std.specs.Prelude.{◌≡◌, ◌++◌, [], ◌∷◌, OnOk, IfOk, Some, None, map, option_map};
-ghost use Rattle.c_types.specs.Views.{expr_of};
+ghost use Rattle.typed_unit.specs.Views.{expr_of};
 ghost use Rattle.lower_law.specs.Counts.{asking, if_there};
 ghost use Rattle.unit_counts.specs.Sizes.{size_of, statement_sizes, block_sizes, branches_sizes};
 
 use crate::expressions::{plus, reads, reads_all, weight, weight_all};
-use c_types::typed::{TypedBranch, TypedExpr, TypedStatement};
 use sqlite_items::Items;
 use std::alloc::{AllocError, Global};
+use typed_unit::typed::{TypedBranch, TypedExpr, TypedStatement};
 
 /// What is counted for a thing that a body does, without the body of the function that it calls: its read sites, what its operators and
 /// its array accesses weigh, and the number of the function.

@@ -1,7 +1,7 @@
 use Rattle.std.proofs.Common.{◌≡◌, [], sym, subst, rules}
 use Rattle.std.specs.Option.{option_copied}
 use Rattle.oil_rules.specs.Rules.{faults}
-use Rattle.app_model.specs.InOrder.{IsInOrder}
+use Rattle.application.specs.InOrder.{IsInOrder}
 use Rattle.app_model.proofs.Orderly.{application_in_order}
 use Rattle.app_model.proofs.build.app_of.Goals as goal
 

@@ -1,6 +1,6 @@
 use Rattle.std.proofs.Common.{ap, ◌∙◌, refl}
 use Rattle.std.specs.List.{flat_map}
-use Rattle.app_model.specs.Levels.{class_of}
+use Rattle.application.specs.Levels.{class_of}
 use Rattle.app_model.specs.Application.{task_in, routine_in, resource_in, leveled, ceiled}
 use Rattle.std.specs.Option.{option_copied}
 use Rattle.app_model.proofs.Whole.{application_is, few_known, few_resources, tasks_in_bounds, routines_in_bounds}

@@ -1,6 +1,6 @@
 use Rattle.std.proofs.Common.{◌≡◌, min, find, Some, None, sym, ap, ◌∙◌}
 use Rattle.std.specs.Option.{option_copied, option_map_or}
-use Rattle.oil_text.specs.declared.tree.Attribute.{Attribute}
+use Rattle.oil_tree.specs.declared.tree.Attribute.{Attribute}
 use Rattle.oil_rules.specs.Roles.{is_role}
 use Rattle.oil_rules.specs.Values.{number_of}
 use Rattle.oil_rules.specs.Objects.{role_in}

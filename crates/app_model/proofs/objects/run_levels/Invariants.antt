@@ -1,5 +1,5 @@
 use Rattle.std.proofs.Common.{◌≡◌, take, map}
-use Rattle.app_model.specs.Levels.{run_level_among}
+use Rattle.application.specs.Levels.{run_level_among}
 use Rattle.app_model.proofs.objects.run_levels.Given as goal
 
 -- those of the tasks so far

@@ -1,6 +1,6 @@
 use Rattle.std.proofs.Common.{ap, ◌∙◌, map}
-use Rattle.app_model.specs.Levels.{run_level_among}
-use Rattle.app_model.specs.RunLevels.{with_run_levels}
+use Rattle.application.specs.Levels.{run_level_among}
+use Rattle.application.specs.RunLevels.{with_run_levels}
 use Rattle.app_model.proofs.Steps.{with_all_run_levels}
 use Rattle.app_model.proofs.objects.set_run_levels.Goals as goal
 

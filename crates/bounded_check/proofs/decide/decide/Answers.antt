@@ -6,7 +6,7 @@ use Rattle.clause_form.specs.DerivedLine.{AreDerived}
 use Rattle.clause_form.specs.Literals.{is_within}
 use Rattle.clause_solver.specs.Answer.{IsLog}
 use Rattle.step_ir.specs.Points.{start_bits}
-use Rattle.turn_unroll.specs.Encodings.{encoding_of}
+use Rattle.turn_encoding.specs.Encodings.{encoding_of}
 
 pub push-requires : goal.push-requires
 push-requires c =

@@ -6,9 +6,8 @@ use Rattle.one_stack.specs.Labelled.{labels_of}
 use Rattle.step_ir.specs.Points.{start_bits}
 use Rattle.step_ir.specs.PointStep.{behaviour_of}
 use Rattle.step_ir.specs.Setting.{setting_of}
-use Rattle.turn_unroll.specs.Encodings.{encoding_of}
-use Rattle.turn_unroll.specs.Grids.{AreWide}
-use Rattle.turn_unroll.specs.Unrolls.{HasShape}
+use Rattle.turn_encoding.specs.Encodings.{encoding_of, HasShape}
+use Rattle.turn_encoding.specs.Grids.{AreWide}
 
 pub returns-clause-depicts : goal.returns-clause-depicts
 returns-clause-depicts c =

@@ -5,7 +5,7 @@ use Rattle.c_grammar.specs.declared.symbol.Symbol.TheVariants.{Comma}
 use Rattle.c_grammar.specs.Written.{spelled}
 use Rattle.c_grammar.specs.Factored.{TheExpression}
 use Rattle.c_expression.specs.Expressions.{further_argument}
-use Rattle.c_expression.specs.declared.expression.Argument.{Argument}
+use Rattle.c_unit.specs.declared.expression.Argument.{Argument}
 use Rattle.c_lex.specs.declared.token.Token.{Token}
 use Rattle.c_expression.proofs.ListLoops
 use Rattle.c_expression.proofs.Lows.{arguments_low}

@@ -1,7 +1,7 @@
 -- Each call has fewer tokens, or as many and a part that stands lower. A loop over a level has read some operands.
 use Rattle.std.proofs.Common.{ℕ, ◌+◌, ◌*◌, ◌≤◌, List, length}
 use Rattle.c_lex.specs.declared.token.Token.{Token}
-use Rattle.c_expression.specs.declared.expression.Expression.{Expression}
+use Rattle.c_unit.specs.declared.expression.Expression.{Expression}
 use Rattle.c_expression.proofs.Chains.{SoFar}
 use Rattle.c_expression.proofs.expressions.+expressions.Given as goal
 
@@ -10,6 +10,9 @@ decreases-expression l = 40 * length l.tokens.now + 3
 
 abbrev pub decreases-after : goal.decreases-after
 decreases-after l = 40 * length l.tokens.now + 30
+
+abbrev pub decreases-choice : goal.decreases-choice
+decreases-choice l = 40 * length l.tokens.now + 4
 
 abbrev pub decreases-all_joined : goal.decreases-all_joined
 decreases-all_joined l = 40 * length l.tokens.now + 29

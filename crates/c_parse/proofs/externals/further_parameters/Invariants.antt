@@ -4,7 +4,7 @@ use Rattle.grammar.specs.Grammar.{◌▸◌}
 use Rattle.c_grammar.specs.declared.symbol.Symbol.TheVariants.{Comma}
 use Rattle.c_grammar.specs.Written.{spelled, parameter}
 use Rattle.c_parse.specs.Units.{further_parameter}
-use Rattle.c_parse.specs.declared.unit.Parameter.{Parameter}
+use Rattle.c_unit.specs.declared.unit.Parameter.{Parameter}
 use Rattle.c_lex.specs.declared.token.Token.{Token}
 use Rattle.c_expression.proofs.ListLoops
 use Rattle.c_parse.proofs.Lows.{parameters_low}

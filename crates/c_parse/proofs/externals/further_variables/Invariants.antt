@@ -6,8 +6,8 @@ use Rattle.c_grammar.specs.Written.{spelled}
 use Rattle.c_grammar.specs.Factored.{TheVariable}
 use Rattle.c_parse.specs.Units.{further_variable}
 use Rattle.std.specs.Prelude.{Bool}
-use Rattle.c_expression.specs.declared.expression.TypeName.{TypeName}
-use Rattle.c_parse.specs.declared.unit.Declaration.{Declaration}
+use Rattle.c_unit.specs.declared.expression.TypeName.{TypeName}
+use Rattle.c_unit.specs.declared.unit.Declaration.{Declaration}
 use Rattle.c_lex.specs.declared.token.Token.{Token}
 use Rattle.c_expression.proofs.ListLoops
 use Rattle.c_parse.proofs.Lows.{variables_low}

@@ -1,7 +1,7 @@
 -- Some constants have been read.
 use Rattle.std.proofs.Common.{◌≤◌, List, length}
 use Rattle.c_lex.specs.declared.token.Token.{Token}
-use Rattle.c_parse.specs.declared.unit.Constant.{Constant}
+use Rattle.c_unit.specs.declared.unit.Constant.{Constant}
 use Rattle.c_parse.proofs.Tails
 use Rattle.c_parse.proofs.externals.tail.Given as goal
 

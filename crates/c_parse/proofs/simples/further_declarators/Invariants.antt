@@ -5,7 +5,7 @@ use Rattle.c_grammar.specs.declared.symbol.Symbol.TheVariants.{Comma}
 use Rattle.c_grammar.specs.Written.{spelled, declarator}
 use Rattle.c_grammar.specs.Factored.{TheRight}
 use Rattle.c_parse.specs.Statements.{further_declarator}
-use Rattle.c_parse.specs.declared.statement.Declarator.{Declarator}
+use Rattle.c_unit.specs.declared.statement.Declarator.{Declarator}
 use Rattle.c_lex.specs.declared.token.Token.{Token}
 use Rattle.c_expression.proofs.ListLoops
 use Rattle.c_parse.proofs.Lows.{declarators_low}

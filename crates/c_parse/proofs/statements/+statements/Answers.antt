@@ -1,6 +1,6 @@
 -- One branch more, a stop within one, a last block, and the end. A list of statements likewise.
 use Rattle.std.proofs.Common.{◌∙◌, List, [], Some, ap, sym, refl, arith}
-use Rattle.c_parse.specs.declared.statement.Statement.{Statement}
+use Rattle.c_unit.specs.declared.statement.Statement.{Statement}
 use Rattle.std.proofs.lemmas.Result.{err_from_is_err_and}
 use Rattle.grammar.specs.Grammar.{Rule, Nil, Pair, Left, Right, Node}
 use Rattle.c_grammar.specs.declared.symbol.Symbol.TheVariants.{Else}

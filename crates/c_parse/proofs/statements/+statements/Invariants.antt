@@ -3,8 +3,8 @@ use Rattle.std.proofs.Common.{◌+◌, ◌*◌, ◌≤◌, List, [], length}
 use Rattle.grammar.specs.Grammar.{Rule}
 use Rattle.c_lex.specs.declared.token.Token.{Token}
 use Rattle.c_grammar.specs.Factored.{TheStatement}
-use Rattle.c_parse.specs.declared.statement.Statement.{Statement}
-use Rattle.c_parse.specs.declared.statement.Branch.{Branch}
+use Rattle.c_unit.specs.declared.statement.Statement.{Statement}
+use Rattle.c_unit.specs.declared.statement.Branch.{Branch}
 use Rattle.c_parse.specs.Statements.{statement_of}
 use Rattle.c_expression.proofs.ListLoops
 use Rattle.c_parse.proofs.Elses

@@ -1,7 +1,7 @@
 use Rattle.std.proofs.Common.{◌≡◌, ◌++◌, drop, map}
 use Rattle.c_rules.specs.Files.{meaning}
-use Rattle.c_types.specs.Views.{expr_of}
-use Rattle.c_types.specs.TypedStatements.{arguments_from}
+use Rattle.typed_unit.specs.Views.{expr_of}
+use Rattle.typed_unit.specs.TypedStatements.{arguments_from}
 use Rattle.c_types.proofs.calls.arguments_of.Given as goal
 
 -- the arguments so far, and those that are left

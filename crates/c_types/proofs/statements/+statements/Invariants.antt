@@ -1,8 +1,8 @@
 use Rattle.std.proofs.Common.{◌≡◌, ◌++◌, drop, map}
 use Rattle.c_rules.specs.Written.{written_block, written_branches}
 use Rattle.c_rules.specs.StatementRules.{after_block, after_branches}
-use Rattle.c_types.specs.Views.{statement_of, branch_of}
-use Rattle.c_types.specs.TypedStatements.{typed_statements, typed_branches}
+use Rattle.typed_unit.specs.Views.{statement_of, branch_of}
+use Rattle.typed_unit.specs.TypedStatements.{typed_statements, typed_branches}
 use Rattle.c_types.proofs.statements.+statements.Given as goal
 
 -- what the statements so far do, and those that are left

@@ -1,7 +1,7 @@
 use Rattle.std.proofs.Common.{◌≡◌, ◌++◌, drop, map}
 use Rattle.c_rules.specs.StatementRules.{after_declarators}
-use Rattle.c_types.specs.Views.{statement_of}
-use Rattle.c_types.specs.TypedStatements.{declarators_of}
+use Rattle.typed_unit.specs.Views.{statement_of}
+use Rattle.typed_unit.specs.TypedStatements.{declarators_of}
 use Rattle.c_types.proofs.statements.put_declarators.Given as goal
 
 -- what the locals so far are set to, and those that are left

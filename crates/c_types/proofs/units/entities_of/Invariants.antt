@@ -1,7 +1,7 @@
 use Rattle.std.proofs.Common.{◌≡◌, take, map}
 use Rattle.std.specs.List.{flat_map}
-use Rattle.c_types.specs.Views.{entity_of}
-use Rattle.c_types.specs.Typed.{entity_in}
+use Rattle.typed_unit.specs.Views.{entity_of}
+use Rattle.typed_unit.specs.Typed.{entity_in}
 use Rattle.c_types.proofs.units.entities_of.Given as goal
 
 -- the bodies so far

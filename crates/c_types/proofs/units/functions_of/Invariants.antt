@@ -1,7 +1,7 @@
 use Rattle.std.proofs.Common.{◌≡◌, take, map}
 use Rattle.std.specs.List.{flat_map}
-use Rattle.c_types.specs.Views.{function_of}
-use Rattle.c_types.specs.Typed.{functions_in}
+use Rattle.typed_unit.specs.Views.{function_of}
+use Rattle.typed_unit.specs.Typed.{functions_in}
 use Rattle.c_types.proofs.units.functions_of.Given as goal
 
 -- the functions so far

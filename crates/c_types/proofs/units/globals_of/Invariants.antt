@@ -1,6 +1,6 @@
 use Rattle.std.proofs.Common.{◌≡◌, take}
 use Rattle.std.specs.List.{flat_map}
-use Rattle.c_types.specs.Typed.{globals_in}
+use Rattle.typed_unit.specs.Typed.{globals_in}
 use Rattle.c_types.proofs.units.globals_of.Given as goal
 
 -- the variables so far

@@ -1,6 +1,6 @@
 use Rattle.std.proofs.Common.{◌≡◌, take, map}
 use Rattle.c_rules.specs.PlainScopes.{plain_declared}
-use Rattle.c_types.specs.Typed.{local_of}
+use Rattle.typed_unit.specs.Typed.{local_of}
 use Rattle.c_types.proofs.units.locals_of.Given as goal
 
 -- the locals so far

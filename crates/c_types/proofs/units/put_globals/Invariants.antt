@@ -1,5 +1,5 @@
 use Rattle.std.proofs.Common.{◌≡◌, ◌++◌, take, map}
-use Rattle.c_types.specs.Typed.{global_declared}
+use Rattle.typed_unit.specs.Typed.{global_declared}
 use Rattle.c_types.proofs.units.put_globals.Given as goal
 
 -- the variables so far

@@ -1,5 +1,5 @@
 use Rattle.std.proofs.Common.{◌≡◌}
-use Rattle.c_types.specs.Typed.{starts_of}
+use Rattle.typed_unit.specs.Typed.{starts_of}
 use Rattle.c_types.proofs.units.starts_of.Given as goal
 
 -- what the elements so far begin with

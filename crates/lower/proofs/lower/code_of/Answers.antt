@@ -1,6 +1,6 @@
 -- The parts of the code.
 use Rattle.std.proofs.Common.{◌∙◌, ◌<◌, ◌^◌, ap, sym, subst, map}
-use Rattle.c_types.specs.Views.{unit_of, function_of}
+use Rattle.typed_unit.specs.Views.{unit_of, function_of}
 use Rattle.lower_law.specs.Translated.{cell_count, function}
 use Rattle.lower_pieces.specs.Trees as pieces
 use Rattle.lower_code.specs.Tables.{tables_to}

@@ -1,7 +1,7 @@
 -- The laws together.
 use Rattle.std.proofs.Common.{◌≡◌, ◌≤◌, ◌∙◌, arith}
 use Rattle.step_ir.specs.PointStep.{program_of}
-use Rattle.c_types.specs.Views.{unit_of}
+use Rattle.typed_unit.specs.Views.{unit_of}
 use Rattle.lower_law.specs.Counts.{bit_total, call_depth, point_total, saturated, weight_total}
 use Rattle.lower_law.specs.Exact.{exchanged}
 use Rattle.lower_law.specs.Layout.{layout}

@@ -1,6 +1,6 @@
 use Rattle.std.proofs.Common.{◌≡◌, take}
 use Rattle.std.specs.Prelude.{map}
-use Rattle.c_types.specs.Views as typed
+use Rattle.typed_unit.specs.Views as typed
 use Rattle.lower_law.specs.Translated.{function}
 use Rattle.lower_pieces.specs.Trees.{function_of}
 use Rattle.lower.proofs.trees.function_trees.Given as goal

@@ -2,11 +2,11 @@
 use denote.Param.Weighed.{at_most}
 use Rattle.std.proofs.Common.{◌≡◌, ◌-◌, ◌^◌, [], ◌∷◌, Some, None, sym, ap, ◌∙◌, subst, arith, rules}
 use Rattle.std.specs.Prelude.{map, IfOk}
-use Rattle.c_types.specs.declared.typed.TypedBranch.{TypedBranch}
-use Rattle.c_types.specs.declared.typed.TypedBranch as written_branch
-use Rattle.c_types.specs.declared.typed.TypedStatement as written
-use Rattle.c_types.specs.declared.typed.TypedStatement.TheVariants as s
-use Rattle.c_types.specs.Views as typed
+use Rattle.typed_unit.specs.declared.typed.TypedBranch.{TypedBranch}
+use Rattle.typed_unit.specs.declared.typed.TypedBranch as written_branch
+use Rattle.typed_unit.specs.declared.typed.TypedStatement as written
+use Rattle.typed_unit.specs.declared.typed.TypedStatement.TheVariants as s
+use Rattle.typed_unit.specs.Views as typed
 use Rattle.lower_law.specs.Statements.{CellStatement, Loop, Block, block}
 use Rattle.lower_pieces.specs.declared.tree.StatementTree as made
 use Rattle.lower_pieces.specs.Trees.{tree_of, statement_of}

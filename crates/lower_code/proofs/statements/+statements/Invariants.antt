@@ -1,6 +1,6 @@
 use Rattle.std.proofs.Common.{◌≡◌, ◌^◌, ◌≤◌, length, drop}
 use Rattle.std.specs.Prelude.{map}
-use Rattle.c_types.specs.Views.{block_of, branch_of}
+use Rattle.typed_unit.specs.Views.{block_of, branch_of}
 use Rattle.lower_law.specs.Statements.{block}
 use Rattle.lower_law.specs.Translated.{joined, statements}
 use Rattle.lower_code.specs.Chains.{AllNumbersBelow, chained_cells}

@@ -1,6 +1,6 @@
 use Rattle.std.proofs.Common.{◌≡◌, ◌^◌, ◌++◌, drop}
 use Rattle.std.specs.Prelude.{map}
-use Rattle.c_types.specs.Views.{expr_of}
+use Rattle.typed_unit.specs.Views.{expr_of}
 use Rattle.lower_law.specs.Translated.{expr}
 use Rattle.lower_code.specs.Chains.{ArgumentsBelow}
 use Rattle.lower_pieces.specs.Trees.{tree_of}

@@ -1,6 +1,6 @@
 use Rattle.std.proofs.Common.{◌≡◌, true, sym, ap₂, ◌∙◌, subst}
-use Rattle.app_model.specs.declared.app.App.{App}
-use Rattle.app_model.specs.InOrder.{IsInOrder}
+use Rattle.application.specs.declared.app.App.{App}
+use Rattle.application.specs.InOrder.{IsInOrder}
 use Rattle.one_stack.proofs.Sample.{fits, form, in_order}
 use Rattle.one_stack.specs.Sample.{two_tasks}
 use Rattle.one_stack.specs.TaskForm.{is_task_form}

@@ -1,6 +1,6 @@
 use Rattle.std.proofs.Common.{[], sym, ◌∙◌, arith}
 use Rattle.std.proofs.lemmas.Result.{err_from_is_err_and}
-use Rattle.oil_text.specs.Listed.{listed}
+use Rattle.oil_tree.specs.Listed.{listed}
 use Rattle.oil_text.specs.OilGrammar.{Attribute as AttributeRule}
 use Rattle.grammar.specs.Grammar.{Many, Rule}
 use Rattle.oil_text.specs.OilMeaning.{attribute_at}

@@ -1,5 +1,5 @@
 use Rattle.std.proofs.Common.{◌+◌, ◌*◌, ◌≤◌, length, []}
-use Rattle.oil_text.specs.Listed.{listed}
+use Rattle.oil_tree.specs.Listed.{listed}
 use Rattle.oil_text.specs.OilMeaning.{attribute_at}
 use Rattle.oil_text.proofs.Repeated.{SoFar, Attributes}
 use Rattle.oil_text.proofs.reading.+attributes.Given as goal

@@ -40,7 +40,7 @@ pub returns-in-Err-clause-always_usage : goal.returns-in-Err-clause-always_usage
 returns-in-Err-clause-always_usage g c none = let u = c.in-Err.ensures.unwritten in absurd (none u.what u.is)
 
 pub returns-in-Ok-clause-accepted : goal.returns-in-Ok-clause-accepted
-returns-in-Ok-clause-accepted g c = are_checked c.certificates_are_good.ensures _ _ _
+returns-in-Ok-clause-accepted g c = are_checked c.entities_have_names.ensures c.certificates_are_good.ensures _ _ _
 
 pub returns-in-Err-clause-accepted : goal.returns-in-Err-clause-accepted
-returns-in-Err-clause-accepted g c = are_checked c.certificates_are_good.ensures _ _ _
+returns-in-Err-clause-accepted g c = are_checked c.entities_have_names.ensures c.certificates_are_good.ensures _ _ _

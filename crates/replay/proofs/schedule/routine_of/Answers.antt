@@ -1,7 +1,7 @@
 use Rattle.std.proofs.Common.{◌≡◌, ◌+◌, refl, sym, ap, ◌∙◌, List, subst}
 use Rattle.std.proofs.lemmas.Option.{slice_get_read}
 use Rattle.std.proofs.lemmas.Slice.Eq.{bytes_eq-Decides}
-use Rattle.app_model.specs.declared.app.Routine.{Routine}
+use Rattle.application.specs.declared.app.Routine.{Routine}
 use Rattle.replay.proofs.Names.{NoneNamed, nobody, one_more}
 use Rattle.replay.proofs.schedule.routine_of.Goals as goal
 

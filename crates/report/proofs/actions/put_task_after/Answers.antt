@@ -1,11 +1,4 @@
-use Rattle.std.proofs.lemmas.Result.{err_from_is_err_and}
-use Rattle.report.proofs.Printing.{prints_cut, prints_failed, prints_then}
 use Rattle.report.proofs.actions.put_task_after.Goals as goal
 
-pub returns-in_err-put : goal.returns-in_err-put
-returns-in_err-put g c =
-    let p = err_from_is_err_and c.from_residual.result c.from_residual.ensures.1 in
-    rw p.1 (prints_failed (prints_cut _ c.in_err-put.ensures))
-
 pub returns : goal.returns
-returns g c = prints_then c.in_ok-put.ensures c.put_entity.ensures
+returns g c = rw (← c.entity_name.ensures) c.put_all.ensures

@@ -1,16 +1,4 @@
-use Rattle.std.proofs.lemmas.Result.{err_from_is_err_and}
-use Rattle.report.proofs.Printing.{prints_cut, prints_failed, prints_then}
 use Rattle.report.proofs.runs.put_arrival.Goals as goal
 
-pub returns-in_err-put : goal.returns-in_err-put
-returns-in_err-put g c =
-    let p = err_from_is_err_and c.from_residual.result c.from_residual.ensures.1 in
-    rw p.1 (prints_failed (prints_cut _ c.in_err-put.ensures))
-
-pub returns-in_err-put_entity : goal.returns-in_err-put_entity
-returns-in_err-put_entity g c =
-    let p = err_from_is_err_and c.from_residual-in_err-put_entity.result c.from_residual-in_err-put_entity.ensures.1 in
-    rw p.1 (prints_failed (prints_cut _ (prints_then c.in_ok-put.ensures c.in_err-put_entity.ensures)))
-
 pub returns : goal.returns
-returns g c = prints_then (prints_then c.in_ok-put.ensures c.in_ok-put_entity.ensures) c.put-2.ensures
+returns g c = rw (← c.entity_name.ensures) c.put_all.ensures

@@ -1,26 +1,4 @@
-use Rattle.std.proofs.lemmas.Result.{err_from_is_err_and}
-use Rattle.report.proofs.Printing.{prints_cut, prints_failed, prints_then}
 use Rattle.report.proofs.shows.put_routine.Goals as goal
 
-pub returns-in_err-put : goal.returns-in_err-put
-returns-in_err-put g c =
-    let p = err_from_is_err_and c.from_residual.result c.from_residual.ensures.1 in
-    rw p.1 (prints_failed (prints_cut _ c.in_err-put.ensures))
-
-pub returns-in_err-put_text : goal.returns-in_err-put_text
-returns-in_err-put_text g c =
-    let p = err_from_is_err_and c.from_residual-in_err-put_text.result c.from_residual-in_err-put_text.ensures.1 in
-    rw p.1 (prints_failed (prints_cut _ (prints_cut _ (prints_cut _ (prints_then c.in_ok-put.ensures c.in_err-put_text.ensures)))))
-
-pub returns-in_err-put_counted : goal.returns-in_err-put_counted
-returns-in_err-put_counted g c =
-    let p = err_from_is_err_and c.from_residual-in_err-put_counted.result c.from_residual-in_err-put_counted.ensures.1 in
-    rw p.1 (prints_failed (prints_cut _ (prints_cut _ (prints_then (prints_then c.in_ok-put.ensures c.in_ok-put_text.ensures) c.in_err-put_counted.ensures))))
-
-pub returns-in_err-put_points_at : goal.returns-in_err-put_points_at
-returns-in_err-put_points_at g c =
-    let p = err_from_is_err_and c.from_residual-in_err-put_points_at.result c.from_residual-in_err-put_points_at.ensures.1 in
-    rw p.1 (prints_failed (prints_cut _ (prints_then (prints_then (prints_then c.in_ok-put.ensures c.in_ok-put_text.ensures) c.in_ok-put_counted.ensures) c.in_err-put_points_at.ensures)))
-
 pub returns : goal.returns
-returns g c = prints_then (prints_then (prints_then (prints_then c.in_ok-put.ensures c.in_ok-put_text.ensures) c.in_ok-put_counted.ensures) c.in_ok-put_points_at.ensures) c.put-2.ensures
+returns g c = rw (← c.points_at.ensures) c.put_all.ensures

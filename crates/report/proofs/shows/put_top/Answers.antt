@@ -2,15 +2,10 @@ use Rattle.std.proofs.lemmas.Result.{err_from_is_err_and}
 use Rattle.report.proofs.Printing.{prints_cut, prints_failed, prints_then}
 use Rattle.report.proofs.shows.put_top.Goals as goal
 
-pub returns-in_err-put : goal.returns-in_err-put
-returns-in_err-put g c =
+pub returns-in_err-put_all : goal.returns-in_err-put_all
+returns-in_err-put_all g c =
     let p = err_from_is_err_and c.from_residual.result c.from_residual.ensures.1 in
-    rw p.1 (prints_failed (prints_cut _ c.in_err-put.ensures))
-
-pub returns-in_err-put_class : goal.returns-in_err-put_class
-returns-in_err-put_class g c =
-    let p = err_from_is_err_and c.from_residual-in_err-put_class.result c.from_residual-in_err-put_class.ensures.1 in
-    rw p.1 (prints_failed (prints_cut _ (prints_then c.in_ok-put.ensures c.in_err-put_class.ensures)))
+    rw p.1 (prints_failed (prints_cut _ (rw c.class_line.ensures at c.in_err-put_all.ensures)))
 
 pub returns : goal.returns
-returns g c = prints_then (prints_then c.in_ok-put.ensures c.in_ok-put_class.ensures) c.put_mode.ensures
+returns g c = prints_then (rw c.class_line.ensures at c.in_ok-put_all.ensures) c.put_mode.ensures

@@ -1,5 +1,5 @@
 use Rattle.std.proofs.Common.{◌≡◌, ◌+◌, map, take}
-use Rattle.c_types.specs.Views.{entity_of}
+use Rattle.typed_unit.specs.Views.{entity_of}
 use Rattle.static_rules.specs.Rules.{has_body}
 use Rattle.static_rules.proofs.bodies.has_body.Given as goal
 

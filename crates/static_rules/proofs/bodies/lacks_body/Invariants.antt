@@ -1,5 +1,5 @@
 use Rattle.std.proofs.Common.{◌≡◌, map}
-use Rattle.c_types.specs.Views.{entity_of}
+use Rattle.typed_unit.specs.Views.{entity_of}
 use Rattle.static_rules.specs.Rules.{lacks_body}
 use Rattle.static_rules.proofs.bodies.lacks_body.Given as goal
 

@@ -1,4 +1,4 @@
-use Rattle.c_types.specs.Views.{entity_of}
+use Rattle.typed_unit.specs.Views.{entity_of}
 use Rattle.static_rules.specs.Rules.{nameless_faults}
 use Rattle.static_rules.proofs.FaultParts.{mapped_step}
 use Rattle.static_rules.proofs.bodies.seeing_all_nameless.Goals as goal

@@ -1,6 +1,6 @@
 use Rattle.std.proofs.Common.{◌≡◌, take, map}
 use Rattle.std.specs.List.{flat_map}
-use Rattle.c_types.specs.Views.{entity_of}
+use Rattle.typed_unit.specs.Views.{entity_of}
 use Rattle.c_rules.specs.First.{first_of}
 use Rattle.static_rules.specs.Rules.{nameless_faults}
 use Rattle.static_rules.proofs.bodies.seeing_all_nameless.Given as goal

@@ -1,5 +1,5 @@
 use Rattle.std.proofs.Common.{◌≡◌, [], drop, map}
-use Rattle.c_types.specs.Views.{entity_of}
+use Rattle.typed_unit.specs.Views.{entity_of}
 use Rattle.c_rules.specs.First.{first_of}
 use Rattle.oil_rules.specs.Names.{repeats}
 use Rattle.static_rules.specs.Rules.{at_names, names_of}

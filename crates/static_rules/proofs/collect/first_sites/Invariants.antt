@@ -1,6 +1,6 @@
 use Rattle.std.proofs.Common.{◌≡◌, map, take}
 use Rattle.std.specs.List.{flat_map}
-use Rattle.c_types.specs.Views.{entity_of}
+use Rattle.typed_unit.specs.Views.{entity_of}
 use Rattle.static_rules.specs.Rules.{first_sites}
 use Rattle.static_rules.proofs.collect.first_sites.Given as goal
 

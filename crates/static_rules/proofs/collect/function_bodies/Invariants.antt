@@ -1,5 +1,5 @@
 use Rattle.std.proofs.Common.{◌≡◌, map, take}
-use Rattle.c_types.specs.Views.{function_of}
+use Rattle.typed_unit.specs.Views.{function_of}
 use Rattle.static_rules.specs.Sites.{function_bodies}
 use Rattle.static_rules.proofs.collect.function_bodies.Given as goal
 

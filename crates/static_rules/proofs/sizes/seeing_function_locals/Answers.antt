@@ -1,5 +1,5 @@
 use Rattle.std.proofs.Common.{ap, ◌∙◌}
-use Rattle.c_types.specs.Views.{function_of}
+use Rattle.typed_unit.specs.Views.{function_of}
 use Rattle.c_rules.specs.First.{first_of}
 use Rattle.static_rules.specs.Rules.{local_faults, function_local_faults}
 use Rattle.static_rules.proofs.FaultParts.{mapped_step}

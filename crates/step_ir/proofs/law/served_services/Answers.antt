@@ -1,4 +1,4 @@
-use Rattle.step_ir.proofs.Deeds.{activated_task, chained_task, leaving_none}
+use Rattle.step_ir.proofs.Served.{activated_task, chained_task, leaving_none}
 use Rattle.step_ir.proofs.law.served_services.Goals as goal
 
 pub returns : goal.returns

@@ -3,9 +3,9 @@ use Rattle.guard_prog.specs.Drafts.{program_of}
 use Rattle.guard_prog.specs.WellShaped.{IsWellShaped}
 use Rattle.turn_law.specs.Description.{Describes}
 use Rattle.turn_law.specs.Unrolled.{offers_from}
-use Rattle.turn_unroll.specs.Encodings.{encoding_of}
+use Rattle.turn_encoding.specs.Encodings.{encoding_of, HasShape}
 use Rattle.turn_unroll.specs.Offers.{greatest_of}
-use Rattle.turn_unroll.specs.Unrolls.{HasShape, IsUnrolled}
+use Rattle.turn_unroll.specs.Unrolls.{IsUnrolled}
 use Rattle.turn_unroll.specs.Ways.{offers_of}
 use Rattle.turn_unroll.proofs.Advancing.{unrolled_describes, unrolled_shape, wide_columns, wide_fewer}
 use Rattle.turn_unroll.proofs.Fitting.{draft_few}

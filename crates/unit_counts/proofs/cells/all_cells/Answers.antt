@@ -1,5 +1,5 @@
 use Rattle.std.proofs.Common.{◌+◌, ap, arith, length}
-use Rattle.c_types.specs.Views.{unit_of}
+use Rattle.typed_unit.specs.Views.{unit_of}
 use Rattle.unit_counts.proofs.CellParts.{cells_few, cells_here}
 use Rattle.unit_counts.proofs.cells.all_cells.Goals as goal
 

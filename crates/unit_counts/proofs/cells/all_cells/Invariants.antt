@@ -1,5 +1,5 @@
 use Rattle.std.proofs.Common.{◌≡◌}
-use Rattle.c_types.specs.Views.{unit_of}
+use Rattle.typed_unit.specs.Views.{unit_of}
 use Rattle.lower_law.specs.Layout.{cells_before}
 use Rattle.unit_counts.specs.Cells.{entity_cells}
 use Rattle.unit_counts.proofs.cells.all_cells.Given as goal

@@ -1,5 +1,5 @@
 use Rattle.std.proofs.Common.{◌≡◌, ap, ◌∙◌}
-use Rattle.c_types.specs.Views.{entity_of, unit_of}
+use Rattle.typed_unit.specs.Views.{entity_of, unit_of}
 use Rattle.lower_law.specs.Counts.{call_depth, entity_reads}
 use Rattle.unit_counts.specs.Tallies.{tally_of, tallies_to}
 use Rattle.unit_counts.proofs.CellParts.{body_cells, cells_own, reads_counted}

@@ -1,5 +1,5 @@
 use Rattle.std.proofs.Common.{ap, arith, length}
-use Rattle.c_types.specs.Views.{unit_of}
+use Rattle.typed_unit.specs.Views.{unit_of}
 use Rattle.lower_law.specs.Layout.{global_names}
 use Rattle.lower_law.specs.Translated.{cell_count}
 use Rattle.unit_counts.proofs.CellParts.{cells_few, globals_few}

@@ -1,5 +1,5 @@
 use Rattle.std.proofs.Common.{◌+◌, ap}
-use Rattle.c_types.specs.Views.{entity_of, unit_of}
+use Rattle.typed_unit.specs.Views.{entity_of, unit_of}
 use Rattle.unit_counts.proofs.CellParts.{reads_few, with_cells}
 use Rattle.unit_counts.proofs.cells.entity_cells.Goals as goal
 

@@ -1,5 +1,5 @@
 use Rattle.std.proofs.Common.{◌≡◌, drop, map}
-use Rattle.c_types.specs.Views.{entity_of}
+use Rattle.typed_unit.specs.Views.{entity_of}
 use Rattle.lower_law.specs.Translated.{entity_body}
 use Rattle.unit_counts.proofs.counts.body_among.Given as goal
 

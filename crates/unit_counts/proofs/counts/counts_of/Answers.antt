@@ -1,5 +1,5 @@
 use Rattle.std.proofs.Common.{◌+◌, map, ap, ◌∙◌}
-use Rattle.c_types.specs.Views.{unit_of}
+use Rattle.typed_unit.specs.Views.{unit_of}
 use Rattle.lower_law.specs.Counts.{call_depth, global_bits, saturated, sum_of}
 use Rattle.unit_counts.specs.Tallies.{function_size, tallies_to}
 use Rattle.unit_counts.proofs.UnitParts.{bits_sum}

@@ -1,5 +1,5 @@
 use Rattle.std.proofs.Common.{◌≡◌}
-use Rattle.c_types.specs.Views.{unit_of}
+use Rattle.typed_unit.specs.Views.{unit_of}
 use Rattle.unit_counts.specs.Tallies.{entity_tallies}
 use Rattle.unit_counts.proofs.counts.entity_tallies.Given as goal
 

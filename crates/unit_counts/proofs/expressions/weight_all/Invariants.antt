@@ -1,5 +1,5 @@
 use Rattle.std.proofs.Common.{◌≡◌, ◌+◌, ◌-◌, ◌^◌, ◌≤◌, drop, map}
-use Rattle.c_types.specs.Views.{expr_of}
+use Rattle.typed_unit.specs.Views.{expr_of}
 use Rattle.lower_law.specs.Counts.{saturated, weight_all}
 use Rattle.unit_counts.proofs.expressions.weight_all.Given as goal
 

@@ -1,5 +1,5 @@
 use Rattle.std.proofs.Common.{◌≡◌, ◌+◌, ◌*◌, ◌++◌, drop}
-use Rattle.c_types.specs.Views.{unit_of}
+use Rattle.typed_unit.specs.Views.{unit_of}
 use Rattle.lower_law.specs.Layout.{function_names}
 use Rattle.unit_counts.specs.Cells.{names_in}
 use Rattle.unit_counts.proofs.names.+calls.Given as goal

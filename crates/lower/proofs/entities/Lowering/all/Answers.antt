@@ -1,6 +1,6 @@
 -- One more entity.
 use Rattle.std.proofs.Common.{ap, length}
-use Rattle.c_types.specs.Views.{unit_of}
+use Rattle.typed_unit.specs.Views.{unit_of}
 use Rattle.lower.proofs.Gathering.{all_cells, codes_long, codes_more, codes_none, first_left, rest_left, some_left}
 use Rattle.lower.proofs.entities.Lowering.all.Goals as goal
 

@@ -1,5 +1,5 @@
 use Rattle.std.proofs.Common.{◌≡◌, ◌-◌, length}
-use Rattle.c_types.specs.Views.{unit_of}
+use Rattle.typed_unit.specs.Views.{unit_of}
 use Rattle.lower.specs.EntityCodes.{AreEntityCodes}
 use Rattle.lower.specs.Ready.{cells_from}
 use Rattle.lower.proofs.entities.Lowering.all.Given as goal

@@ -1,6 +1,6 @@
 -- The tree of the body is placed, and its points are those of the entity.
 use Rattle.std.proofs.Common.{◌∙◌, ◌<◌, ◌^◌, sym, ap, subst, refl}
-use Rattle.c_types.specs.Views.{block_of, entity_of, unit_of}
+use Rattle.typed_unit.specs.Views.{block_of, entity_of, unit_of}
 use Rattle.lower_law.specs.Layout.{cell_width, layout}
 use Rattle.lower_law.specs.Translated.{cell_count, entity, statements, unit_over_cells}
 use Rattle.lower_code.specs.Chains.{AllNumbersBelow}

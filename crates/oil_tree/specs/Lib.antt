@@ -1,0 +1,4 @@
+pub mod PlainAttributes
+pub mod Listed
+pub mod PlainCode
+pub mod Levels

@@ -1,0 +1,4 @@
+use Rattle.report.proofs.events.put_actor.Goals as goal
+
+pub returns : goal.returns
+returns g c = rw (← c.entity_name.ensures) c.put_all.ensures

@@ -1,5 +1,0 @@
-use Rattle.step_ir.proofs.law.same_traces_over_cells.Goals as goal
-use Rattle.step_ir.proofs.Whole.{depth_in_order, same_traces_in_order}
-
-pub returns : goal.returns
-returns g c = record { in_order = same_traces_in_order; depth = depth_in_order }

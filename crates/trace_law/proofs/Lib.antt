@@ -1,0 +1,9 @@
+pub mod Agree
+pub mod Steps
+pub mod Deeds
+pub mod Scenes
+pub mod Traces
+pub mod Rising
+pub mod Prefixes
+pub mod Failing
+pub mod Whole
