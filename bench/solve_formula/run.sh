@@ -1,25 +1,18 @@
 #!/usr/bin/env bash
-# Times solve over ListStore on a formula in the DIMACS form: bash bench/solve_formula/run.sh FILE.cnf [FOLDER]
-# The figure is the processor time of the whole run, with reading.
+# Times the solver on a formula in the DIMACS form: bash bench/solve_formula/run.sh [--small | FILE.cnf [LINES]]
+# The figure is the processor time of the whole run of the proved program, with reading. --small: five pigeons in four holes, not proved.
 set -euo pipefail
 here=$(cd "$(dirname "$0")" && pwd)
-top=$(cd "$here/../.." && pwd)
-file=$(realpath "$1")
-work=${2:-$(mktemp -d)}
-mkdir -p "$work/crates/solve_formula/src" "$work/crates/solve_formula/proofs/formula_words/clause_of"
-cp -r "$top/crates/clause_form" "$top/crates/clause_solver" "$work/crates/"
-cat >"$work/crates.txt" <<'END'
-clause_form: smallvec thiserror
-clause_solver: clause_form smallvec thiserror
-solve_formula: clause_form clause_solver
-END
-cp "$here/solve_formula.txt" "$work/crates/solve_formula/src/main.rt"
-cp "$here/../formula_words.txt" "$work/crates/solve_formula/src/formula_words.rt"
-# The program makes its clauses as the tests of proof_check do, so it takes that function's proof.
-for file_of in Invariants Answers; do
-    sed 's/Rattle.proof_check.proofs.tests/Rattle.solve_formula.proofs.formula_words/' \
-        "$top/crates/proof_check/proofs/tests/clause_of/$file_of.antt" >"$work/crates/solve_formula/proofs/formula_words/clause_of/$file_of.antt"
-done
-python3 "$here/formula_words.py" "$file" "$work/formula"
-(cd "$work/crates/solve_formula" && rt run -- "$work/formula" 0)
-time "$work/crates/solve_formula/out/solve_formula" "$work/formula" 1000000
+libraries="chk_base clause_form clause_solver proof_check"
+OSCHK_BENCH=${OSCHK_BENCH:-$(mktemp -d)}
+export OSCHK_BENCH
+if [ "${1:-}" = --small ]; then
+    python3 "$here/pigeons.py" 4 >"$OSCHK_BENCH/formula.cnf"
+    python3 "$here/certificate_of.py" "$OSCHK_BENCH/formula.cnf" "$OSCHK_BENCH/formula.cert"
+    bash "$here/../program.sh" solve_formula "$libraries" -- "$OSCHK_BENCH/formula.cert" 1000 | tee "$OSCHK_BENCH/told"
+    grep '^refuted, ' "$OSCHK_BENCH/told"
+    exit
+fi
+python3 "$here/certificate_of.py" "$1" "$OSCHK_BENCH/formula.cert"
+bash "$here/../program.sh" --proved solve_formula "$libraries" -- "$OSCHK_BENCH/formula.cert" 0
+time "$OSCHK_BENCH/crates/solve_formula/out/solve_formula" "$OSCHK_BENCH/formula.cert" "${2:-1000000}"
