@@ -1,0 +1,13 @@
+#include "os.h"
+#define FULL 100
+
+DeclareTask(Heat);
+
+static uint8_t duty;
+
+TASK(Heat) {
+  if (duty < FULL) {
+    duty = duty + 1;
+  }
+  TerminateTask();
+}
